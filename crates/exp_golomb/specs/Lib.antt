@@ -1,0 +1,5 @@
+pub mod Bitstream
+pub mod Code
+pub mod Element
+pub mod EmulationPrevention
+pub mod Syntax

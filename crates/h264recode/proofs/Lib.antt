@@ -1,0 +1,9 @@
+pub mod Judging
+pub mod Units
+pub mod Pieces
+pub mod Puts
+pub mod Feeding
+pub mod Reading
+pub mod Flush
+pub mod Told
+pub mod WholeLine

@@ -1,0 +1,10 @@
+pub mod Account
+pub mod Items
+pub mod Pieces
+pub mod Recoder
+pub mod Report
+pub mod Run
+pub mod Status
+pub mod Verdict
+pub mod Words
+pub mod Written

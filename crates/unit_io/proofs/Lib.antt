@@ -1,0 +1,2 @@
+mod CountOfFailures
+pub mod Known
