@@ -1,11 +1,12 @@
 -- What stands at a zero byte, and what stands before the next one.
 use Rattle.std.proofs.Common.{◌≡◌, ℕ, zero, suc, ◌-◌, ◌<◌, ◌≤◌, Bool, true, false, eqb, List, [], ◌∷◌, ◌++◌, length, take, drop, get_or, Option, Some, None, Result, Ok, Err, cond, refl, sym, ap, ◌∙◌, arith, append_assoc}
-use Rattle.std.specs.Prelude.{MatchBool, OnOk, slice_index, is_ok}
+use Rattle.std.specs.Prelude.{MatchBool, OnOk, slice_index, is_ok, is_some}
 use Rattle.std.specs.Option.{option_map}
 use Rattle.std.proofs.lemmas.Bool.{leb-true}
 use Rattle.std.proofs.lemmas.List.{append-nil, take_rest, drop_all}
 use Rattle.std.proofs.Math.Seq.{take-length}
 use Rattle.exp_golomb.specs.EmulationPrevention.{is_low_or_end, escaped, IsEscape, payload_of}
+use Rattle.annexb_units.specs.Zeros.{payload_behind}
 use Rattle.exp_golomb.proofs.Escapes.{escaped-plain, escaped-zero, escaped-pair, payload_of-plain, payload_of-zero, payload_of-three, payload_of-open, payload_of-bad, payload_of-end, payload_of-nothing, payload_of-escaped, escaped-payload_of}
 
 -- no zero byte stands before the place n
@@ -69,10 +70,6 @@ escape_end whole out new rest (Ok done) so_far none e = e ∙ ap (λ t. out ++ t
 escape_end whole out new rest (Err fault) so_far none e = tt
 
 -- ---- reading
-
--- what was read, and what is read of the bytes that are left
-abbrev pub payload_behind : List ℕ → List ℕ → Option (List ℕ)
-payload_behind done bytes = option_map (λ rest. done ++ rest) (payload_of bytes)
 
 pub read_more : (old new front xs ys : List ℕ) → new ≡ old ++ front → payload_of xs ≡ payload_behind front ys → payload_behind new ys ≡ payload_behind old xs
 read_more old new front xs ys e h = rw (e, h) (at (payload_of ys))
@@ -150,3 +147,29 @@ read_end tail done new rest so_far none e =
     let here : payload_of rest ≡ Some rest =
     run ∙ ap (option_map (λ t. take (length rest) rest ++ t)) last ∙ ap (λ t. Some t) (append-nil (take (length rest) rest) ∙ take-length rest) in
     escaped-payload_of new tail (sym so_far ∙ ap (option_map (λ t. done ++ t)) here ∙ ap (λ t. Some t) (sym e))
+
+-- ---- whether there is a payload
+
+pub some_behind : (front xs ys : List ℕ) → payload_of xs ≡ payload_behind front ys → is_some (payload_of xs) ≡ is_some (payload_of ys)
+some_behind front xs ys e = ap is_some e ∙ same (payload_of ys)
+  where
+    same : (o : Option (List ℕ)) → is_some (option_map (λ rest. front ++ rest) o) ≡ is_some o
+    same None = refl
+    same (Some t) = refl
+
+some_run : (rest : List ℕ) (n : ℕ) → n ≤ length rest → HasNoZero n rest → is_some (payload_of rest) ≡ is_some (payload_of (from n rest))
+some_run rest n h none = some_behind (take n rest) rest (drop n rest) (payload_of-run n rest h none) ∙ ap (λ t. is_some (payload_of t)) (sym (take_rest rest n))
+
+-- a turn of the loop: the bytes before a zero byte, and then some that begin with it
+pub some_turn : (rest front : List ℕ) (n k : ℕ) (all : Bool) → is_some (payload_of rest) ≡ all → n ≤ length rest → HasNoZero n rest → payload_of (from n rest) ≡ payload_behind front (drop k (from n rest))
+    → is_some (payload_of (from k (from n rest))) ≡ all
+some_turn rest front n k all so_far h none step =
+    ap (λ t. is_some (payload_of t)) (take_rest (from n rest) k) ∙ sym (some_behind front (from n rest) (drop k (from n rest)) step) ∙ sym (some_run rest n h none) ∙ so_far
+
+pub some_none : (rest : List ℕ) (n : ℕ) (all : Bool) → is_some (payload_of rest) ≡ all → n ≤ length rest → HasNoZero n rest → payload_of (from n rest) ≡ None → false ≡ all
+some_none rest n all so_far h none bad = sym (ap is_some bad) ∙ sym (some_run rest n h none) ∙ so_far
+
+pub some_end : (rest : List ℕ) → HasNoZero (length rest) rest → is_some (payload_of rest) ≡ true
+some_end rest none =
+    let run = some_behind (take (length rest) rest) rest (drop (length rest) rest) (payload_of-run (length rest) rest (omega arith) none) in
+    run ∙ ap (λ t. is_some (payload_of t)) (drop_all (length rest) rest (omega arith)) ∙ ap is_some payload_of-nothing

@@ -11,5 +11,8 @@ mod writing;
 
 pub use escaping::escape;
 pub use splitter::{SplitFault, Splitter};
-pub use unescaping::{EscapeFault, unescape};
+pub use unescaping::{EscapeFault, has_payload, unescape};
 pub use writing::write_unit;
+
+#[cfg(test)]
+mod tests;

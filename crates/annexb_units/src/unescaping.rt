@@ -1,6 +1,7 @@
-ghost use Rattle.std.specs.Prelude.{◌≡◌, ◌≤◌, ℕ, ◌++◌, length, drop, slice_index_or, List, None, IfOk, IfErr, OnOk};
+ghost use Rattle.std.specs.Prelude.{◌≡◌, ◌≤◌, ℕ, ◌++◌, length, drop, is_some, slice_index_or, List, None, IfOk, IfErr, OnOk};
 ghost use Rattle.std.specs.Option.{option_map};
 ghost use Rattle.exp_golomb.specs.EmulationPrevention.{IsEscape, payload_of};
+ghost use Rattle.annexb_units.specs.Zeros.{StandsAt};
 ghost use Rattle.annexb_units.specs.declared.unescaping.EscapeFault.TheVariants.{BadEscape, Memory};
 
 use crate::escaping::is_low_at;
@@ -14,6 +15,7 @@ pub enum EscapeFault {
     /// The unit has no payload.
     #[error("the bytes of the unit are those of no payload")]
     BadEscape,
+    /// There is no memory for the payload.
     #[error("out of memory")]
     Memory,
 }
@@ -37,6 +39,23 @@ pub fn unescape(alloc: Global, unit: &[u8]) -> Result<Vec<u8>, EscapeFault>
     Ok(payload)
 }
 
+/// Whether a unit has a payload. It takes no memory.
+pub fn has_payload(unit: &[u8]) -> bool
+    requires { 1 ≤ length unit.now }
+    ensures { result ≡ is_some (payload_of (drop 1 unit.now)) }
+{
+    let mut rest = &unit[1..];
+    while let Some(zero) = memchr(0, rest) {
+        rest = &rest[zero..];
+        match zeros_at(rest) {
+            Some(Zeros::Alone) => rest = &rest[1..],
+            Some(Zeros::Escaped) => rest = &rest[3..],
+            None => return false,
+        }
+    }
+    true
+}
+
 /// Takes the zero byte at the front, or two of them with the 03 behind them, and says how many bytes those were.
 fn take_zeros(payload: &mut Vec<u8>, bytes: &[u8]) -> Result<usize, EscapeFault>
     requires some { 1 ≤ length bytes.now }
@@ -45,28 +64,53 @@ fn take_zeros(payload: &mut Vec<u8>, bytes: &[u8]) -> Result<usize, EscapeFault>
     ensures taken { IfOk result (λ done. option_map (λ rest. payload.new.items ++ rest) (payload_of (drop done bytes.now)) ≡ option_map (λ rest. payload.old.items ++ rest) (payload_of bytes.now)) }
     ensures bad { IfErr result (λ fault. fault ≡ BadEscape → payload_of bytes.now ≡ None) }
 {
+    match zeros_at(bytes) {
+        Some(Zeros::Alone) => {
+            append(payload, &[0])?;
+            Ok(1)
+        }
+        Some(Zeros::Escaped) => {
+            append(payload, &[0, 0])?;
+            Ok(3)
+        }
+        None => Err(EscapeFault::BadEscape),
+    }
+}
+
+/// A zero byte in front of the bytes of a unit.
+#[derive(Clone, Copy)]
+enum Zeros {
+    /// One that no 03 is put behind.
+    Alone,
+    /// The first of two, which a 03 stands behind.
+    Escaped,
+}
+
+/// What the zero byte at the front is, if the bytes are those of a payload.
+fn zeros_at(bytes: &[u8]) -> Option<Zeros>
+    requires some { 1 ≤ length bytes.now }
+    requires zero { slice_index_or bytes.now 0 1 ≡ 0 }
+    ensures { StandsAt bytes.now result }
+{
     if bytes.len() == 1 {
-        return Err(EscapeFault::BadEscape);
+        return None;
     }
     if bytes[1] != 0 {
-        append(payload, &[0])?;
-        return Ok(1);
+        return Some(Zeros::Alone);
     }
     if !is_low_at(bytes, 2) {
-        append(payload, &[0])?;
-        return Ok(1);
+        return Some(Zeros::Alone);
     }
     if bytes.len() == 2 {
-        return Err(EscapeFault::BadEscape);
+        return None;
     }
     if bytes[2] != 3 {
-        return Err(EscapeFault::BadEscape);
+        return None;
     }
     if !is_low_at(bytes, 3) {
-        return Err(EscapeFault::BadEscape);
+        return None;
     }
-    append(payload, &[0, 0])?;
-    Ok(3)
+    Some(Zeros::Escaped)
 }
 
 fn append(payload: &mut Vec<u8>, bytes: &[u8]) -> Result<(), EscapeFault>

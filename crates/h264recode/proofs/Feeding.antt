@@ -1,5 +1,5 @@
 -- A piece fed, and what waits then written.
-use Rattle.std.proofs.Common.{◌≡◌, ◌∙◌, sym, ap, subst, refl, ℕ, List, [], ◌++◌, take, drop, append-nil}
+use Rattle.std.proofs.Common.{◌≡◌, ◌∙◌, sym, subst, refl, ℕ, List, [], ◌++◌, take, drop, append-nil}
 use Rattle.std.specs.Prelude.{Option, Some, None, Result, Ok, Err, OnOk, IfErr}
 use Rattle.std.proofs.lemmas.List.{take-append-drop}
 use Rattle.std.specs.Io.KnownBytes.{Appends}
@@ -19,7 +19,7 @@ use Rattle.h264recode.specs.Verdict.{Judges, Recodes}
 use Rattle.h264recode.specs.Written.{Written, all_written, forms}
 use Rattle.h264recode.specs.Recoder.{waiting, HasRecoded, RecodesMore, RecodingStops}
 use Rattle.h264recode.specs.Report.{TakesPart}
-use Rattle.h264recode.specs.Pieces.{IsReady, IsWrittenOf, PutsPart, PutsAll, PieceEnds, PieceDone, Notes, status_of_fault, status_of_stop}
+use Rattle.h264recode.specs.Pieces.{IsReady, IsWrittenOf, PutsPart, PieceEnds, PieceDone, Notes, status_of_fault, status_of_stop}
 use Rattle.h264recode.proofs.Judging.{judged-front}
 
 -- ## What waits after a feed
@@ -32,14 +32,14 @@ leaves-ok : (r r1 : Recoder) (piece : List ℕ) → r1.plan ≡ r.plan → Recod
 leaves-ok r r1 piece plan k = λ fed written h.
     let next = k fed written h.recodes in
     let s = seen (fed ++ piece) in
-    let P : Plan → Type 0 = λ o. Judges o 0 s.units None next.items None in
+    let P : Plan → Type 0 = λ o. Judges o [] s.units None next.items None in
     let W : Plan → Type 0 = λ o. written ++ waiting r1 ≡ all_written o s.units next.items in
     (s.units, [], next.items, sym (append-nil s.units), subst P plan next.holds.judged, subst W plan next.holds.written)
 
 -- what is written up to a verdict
 pub written_of_judged : (o : Plan) (s : Seen) (items : List Item) (v : Option Stopped) (written : List Written) → Recodes o s items v → written ≡ all_written o s.units items → IsWrittenOf o s written
 written_of_judged o s items v written h e =
-    let front = judged-front o 0 s.units s.fault items v h in
+    let front = judged-front o [] s.units s.fault items v h in
     (front.0, front.1, items, front.2, front.3, e ∙ front.4)
 
 leaves-err : (r r1 : Recoder) (piece : List ℕ) (e : Stopped) → RecodingStops r r1 piece e → FeedLeaves r r1 piece

@@ -1,5 +1,5 @@
 -- The end of a run: the sink is flushed.
-use Rattle.std.proofs.Common.{◌≡◌, ◌⊎◌, ◌∙◌, sym, ap, subst, refl, inl, inr, ℕ, ◌+◌, ◌≤◌, List, [], ◌∷◌, ◌++◌, length, append-nil, arith}
+use Rattle.std.proofs.Common.{◌≡◌, ◌⊎◌, ◌∙◌, sym, ap, subst, refl, inl, inr, ℕ, ◌+◌, ◌≤◌, List, [], ◌∷◌, ◌++◌, length, append-nil, append_assoc, arith}
 use Rattle.std.specs.Prelude.{Option, Some, None}
 use Rattle.std.specs.Io.KnownBytes.{Appends, Consumes, Keeps, IsAtEnd}
 use Rattle.h264_types.specs.declared.fault.Stopped.{Stopped}
@@ -14,10 +14,10 @@ use Rattle.h264recode.specs.declared.status.Status.{Status}
 use Rattle.h264recode.specs.declared.status.Status.TheVariants.{Ok as Done, BadWords, ReadFault, WriteFault, Stop, Outside, TooMuch, Memory, ReportFault, BadTable}
 use Rattle.h264recode.specs.Items.{Item}
 use Rattle.h264recode.specs.Verdict.{Recodes}
-use Rattle.h264recode.specs.Written.{all_written, forms, output}
+use Rattle.h264recode.specs.Written.{forms, output}
 use Rattle.h264recode.specs.Pieces.{status_of_fault}
-use Rattle.h264recode.specs.Run.{IsPartlyWritten, EndsEarly, RunEnds}
-use Rattle.h264recode.proofs.Judging.{judged-front, before, output-stays}
+use Rattle.h264recode.specs.Run.{IsOver, IsPartlyWritten, EndsEarly, RunEnds}
+use Rattle.h264recode.proofs.Judging.{judged-front, before-none, output-stays}
 use Rattle.h264recode.proofs.Reading.{consumes-at, appends-at}
 
 appends-keeps : (a b c : Option (List ℕ)) (xs : List ℕ) → Appends a b xs → Keeps b c → Appends a c xs
@@ -34,8 +34,8 @@ partly-kept o bound left left' a b c h k = record {
   consumed = h.consumed;
   short = h.short;
   within = h.within;
+  over_is = h.over_is;
   items = h.items;
-  verdict = h.verdict;
   judged = h.judged;
   all = h.all;
   which = h.which;
@@ -51,7 +51,20 @@ partly-kept o bound left left' a b c h k = record {
 }
 
 early-kept : (o : Plan) (bound : ℕ) (left left' a b c : Option (List ℕ)) (stopped : Stopped) → EndsEarly o bound left left' a b stopped → Keeps b c → EndsEarly o bound left left' a c stopped
-early-kept o bound left left' a b c stopped h k = (h.0, h.1, h.2, h.3, h.4, h.5, h.6, appends-keeps a b c (output o h.1.units h.2) h.7 k)
+early-kept o bound left left' a b c stopped h k = record {
+  given = h.given;
+  last = h.last;
+  consumed = h.consumed;
+  short = h.short;
+  within = h.within;
+  items = h.items;
+  judged = h.judged;
+  all = h.all;
+  which = h.which;
+  read = h.read;
+  ends = h.ends;
+  written = appends-keeps a b c (output o h.all.units h.read) h.written k;
+}
 
 -- a flush leaves what a run left
 pub ends-kept : (o : Plan) (bound : ℕ) (left left' a b c : Option (List ℕ)) (account : Account) (status : Status) → RunEnds o bound left left' a b account status → Keeps b c → RunEnds o bound left left' a c account status
@@ -68,88 +81,82 @@ ends-kept o bound left left' a b c account (BadTable at) h k = absurd h
 
 -- ## What was written as a whole was written in part
 
--- all that is written for some bytes was written, and no more
-partly-seen : (o : Plan) (bound : ℕ) (left left' a b : Option (List ℕ)) (given over : List ℕ) (items : List Item) (v : Option Stopped) → Consumes left left' (given ++ over) → length over ≤ 1 → length given ≤ bound
-    → Recodes o (seen given) items v → Appends a b (output o (seen given).units items) → IsPartlyWritten o bound left left' a b
+-- all that is written for what is judged was written, and no more
+partly-of : (o : Plan) (bound : ℕ) (left left' a b : Option (List ℕ)) (given last over : List ℕ) (items read : List Item) (all : Seen) (v : Option Stopped) → Consumes left left' ((given ++ last) ++ over) → length last + length over ≤ 65536
+    → length (given ++ last) ≤ bound → IsOver bound (given ++ last) over → Recodes o (seen given) items None → (all ≡ seen (given ++ last)) ⊎ ((all ≡ seen_whole (given ++ last)) × (over ≡ []) × IsAtEnd left')
+    → Recodes o all read v → (rest : List ℕ) × (output o all.units read ≡ output o (seen given).units items ++ rest) → Appends a b (output o all.units read) → IsPartlyWritten o bound left left' a b
 unfolding output
-partly-seen o bound left left' a b given over items v h short within judged w =
-    let front = judged-front o 0 (seen given).units (seen given).fault items v judged in
+partly-of o bound left left' a b given last over items read all v consumed short within is_over none which judged grows w =
+    let front = judged-front o [] all.units all.fault read v judged in
     let done = output o (seen given).units items in
     record {
       given = given;
-      last = [];
+      last = last;
       over = over;
-      consumed = consumes-at left left' (given ++ over) ((given ++ []) ++ over) (ap (λ x. x ++ over) (sym (append-nil given))) h;
-      short = omega arith;
-      within = omega (arith, within, ap length (append-nil given));
+      consumed = consumed;
+      short = short;
+      within = within;
+      over_is = is_over;
       items = items;
-      verdict = v;
-      judged = judged;
-      all = seen given;
-      which = inl (ap seen (sym (append-nil given)));
+      judged = none;
+      all = all;
+      which = which;
       units = front.0;
       later = front.1;
       first = front.2;
-      read = items;
+      read = read;
       read_is = front.3;
-      more = [];
+      more = grows.0;
       rest = [];
-      appended = appends-at a b done (done ++ []) (sym (append-nil done)) w;
-      written = ap forms (sym front.4) ∙ sym (append-nil (done ++ []) ∙ append-nil done);
+      appended = appends-at a b (output o all.units read) (done ++ grows.0) grows.1 w;
+      written = ap forms (sym front.4) ∙ grows.1 ∙ sym (append-nil (done ++ grows.0));
     }
 
-partly-whole : (o : Plan) (bound : ℕ) (left left' a b : Option (List ℕ)) (given : List ℕ) (items : List Item) (v : Option Stopped) → Consumes left left' given → length given ≤ bound → IsAtEnd left'
-    → Recodes o (seen_whole given) items v → Appends a b (output o (seen_whole given).units items) → IsPartlyWritten o bound left left' a b
-unfolding output seen_whole
-partly-whole o bound left left' a b given items v h within end judged w =
-    let whole : List ℕ = given ++ 0 ∷ 0 ∷ 0 ∷ [] in
-    let front = judged-front o 0 (seen whole).units (seen whole).fault items v judged in
-    let early = before o given (0 ∷ 0 ∷ 0 ∷ []) items v judged in
-    let all = output-stays o given (0 ∷ 0 ∷ 0 ∷ []) early.items items early.verdict v early.judged judged in
-    let done = output o (seen given).units early.items in
-    record {
-      given = given;
-      last = [];
-      over = [];
-      consumed = consumes-at left left' given ((given ++ []) ++ []) (sym (append-nil (given ++ []) ∙ append-nil given)) h;
-      short = omega arith;
-      within = omega (arith, within, ap length (append-nil given));
-      items = early.items;
-      verdict = early.verdict;
-      judged = early.judged;
-      all = seen whole;
-      which = inr (ap (λ x. seen (x ++ 0 ∷ 0 ∷ 0 ∷ [])) (sym (append-nil given)), refl, end);
-      units = front.0;
-      later = front.1;
-      first = front.2;
-      read = items;
-      read_is = front.3;
-      more = all.0;
-      rest = [];
-      appended = appends-at a b (output o (seen whole).units items) (done ++ all.0) all.1 w;
-      written = ap forms (sym front.4) ∙ all.1 ∙ sym (append-nil (done ++ all.0));
-    }
+partly-seen : (o : Plan) (bound : ℕ) (left left' a b : Option (List ℕ)) (given over : List ℕ) (items : List Item) → Consumes left left' (given ++ over) → length over ≤ 1 → length given ≤ bound → IsOver bound given over
+    → Recodes o (seen given) items None → Appends a b (output o (seen given).units items) → IsPartlyWritten o bound left left' a b
+partly-seen o bound left left' a b given over items h short within is_over judged w =
+    let same : given ≡ given ++ [] = sym (append-nil given) in
+    let P : List ℕ → Type 0 = λ x. IsOver bound x over in
+    partly-of o bound left left' a b given [] over items items (seen given) None (consumes-at left left' (given ++ over) ((given ++ []) ++ over) (ap (λ x. x ++ over) same) h) (omega arith) (omega (arith, within, ap length (append-nil given)))
+    (subst P same is_over) judged (inl (ap seen same)) judged ([], sym (append-nil (output o (seen given).units items))) w
+
+partly-whole : (o : Plan) (bound : ℕ) (left left' a b : Option (List ℕ)) (given : List ℕ) (items : List Item) → Consumes left left' given → length given ≤ bound → IsAtEnd left'
+    → Recodes o (seen_whole given) items None → Appends a b (output o (seen_whole given).units items) → IsPartlyWritten o bound left left' a b
+unfolding seen_whole
+partly-whole o bound left left' a b given items h within end judged w =
+    let none = before-none o given (0 ∷ 0 ∷ 0 ∷ []) items judged in
+    let same : given ≡ given ++ [] = sym (append-nil given) in
+    partly-of o bound left left' a b given [] [] none.0 items (seen (given ++ 0 ∷ 0 ∷ 0 ∷ [])) None (consumes-at left left' given ((given ++ []) ++ []) (sym (append-nil (given ++ []) ∙ append-nil given)) h) (omega arith) (omega (arith, within, ap length (append-nil given)))
+    (inl refl) none.1 (inr (ap (λ x. seen (x ++ 0 ∷ 0 ∷ 0 ∷ [])) same, refl, end)) judged (output-stays o given (0 ∷ 0 ∷ 0 ∷ []) none.0 items None None none.1 judged) w
 
 partly-early : (o : Plan) (bound : ℕ) (left left' a b : Option (List ℕ)) (stopped : Stopped) → EndsEarly o bound left left' a b stopped → IsPartlyWritten o bound left left' a b
-partly-early o bound left left' a b stopped h = by h.5
+unfolding seen_whole
+partly-early o bound left left' a b stopped h = by h.which
   where
-    by : (h.1 ≡ seen h.0) ⊎ ((h.1 ≡ seen_whole h.0) × IsAtEnd left') → IsPartlyWritten o bound left left' a b
-    by (inl e) =
-        let P : Seen → Type 0 = λ s. Recodes o s h.2 (Some stopped) × Appends a b (output o s.units h.2) in
-        let k = subst P e (h.6, h.7) in
-        partly-seen o bound left left' a b h.0 [] h.2 (Some stopped) (consumes-at left left' h.0 (h.0 ++ []) (sym (append-nil h.0)) h.3) (omega arith) h.4 k.0 k.1
-    by (inr e) =
-        let P : Seen → Type 0 = λ s. Recodes o s h.2 (Some stopped) × Appends a b (output o s.units h.2) in
-        let k = subst P e.0 (h.6, h.7) in
-        partly-whole o bound left left' a b h.0 h.2 (Some stopped) h.3 h.4 e.1 k.0 k.1
+    x : List ℕ
+    x = h.given ++ h.last
+
+    nothing : List ℕ
+    nothing = []
+
+    at : (c : List ℕ) → h.all ≡ seen (h.given ++ c) → (h.all ≡ seen x) ⊎ ((h.all ≡ seen_whole x) × (nothing ≡ []) × IsAtEnd left') → IsPartlyWritten o bound left left' a b
+    at c e which =
+        let P : Seen → Type 0 = λ s. Recodes o s h.read (Some stopped) in
+        let grows = output-stays o h.given c h.items h.read None (Some stopped) h.judged (subst P e h.ends) in
+        partly-of o bound left left' a b h.given h.last [] h.items h.read h.all (Some stopped) (consumes-at left left' x (x ++ []) (sym (append-nil x)) h.consumed) (omega (arith, h.short)) h.within
+        (inl refl) h.judged which h.ends (grows.0, ap (λ s. output o s.units h.read) e ∙ grows.1) h.written
+
+    by : (h.all ≡ seen x) ⊎ ((h.all ≡ seen_whole x) × IsAtEnd left') → IsPartlyWritten o bound left left' a b
+    by (inl e) = at h.last e (inl e)
+    by (inr e) = at (h.last ++ 0 ∷ 0 ∷ 0 ∷ []) (e.0 ∙ ap seen (append_assoc h.given h.last (0 ∷ 0 ∷ 0 ∷ []))) (inr (e.0, refl, e.1))
 
 -- whatever ended a run, its output was written in part
 pub partly : (o : Plan) (bound : ℕ) (left left' a b : Option (List ℕ)) (account : Account) (status : Status) → RunEnds o bound left left' a b account status → IsPartlyWritten o bound left left' a b
-partly o bound left left' a b account Done h = partly-whole o bound left left' a b h.0 h.1 None h.2 h.4 h.3 h.5 h.6
+partly o bound left left' a b account Done h = partly-whole o bound left left' a b h.0 h.1 h.2 h.4 h.3 h.5 h.6
 partly o bound left left' a b account (Outside unit why) h = partly-early o bound left left' a b (OutsideAt unit why) h
 partly o bound left left' a b account (Stop case place) h = partly-early o bound left left' a b (StopAt case place) h
-partly o bound left left' a b account TooMuch h = partly-seen o bound left left' a b h.0 h.1 h.2 None h.3 (omega (arith, h.5)) (omega (arith, h.4)) h.6 h.7
-partly o bound left left' a b account ReadFault h = partly-seen o bound left left' a b h.0 [] h.1 None (consumes-at left left' h.0 (h.0 ++ []) (sym (append-nil h.0)) h.2) (omega arith) h.3 h.4 h.5
+partly o bound left left' a b account TooMuch h = partly-seen o bound left left' a b h.0 h.1 h.2 h.3 (omega (arith, h.5)) (omega (arith, h.4)) (inr (h.5, h.4)) h.6 h.7
+partly o bound left left' a b account ReadFault h = partly-seen o bound left left' a b h.0 [] h.1 (consumes-at left left' h.0 (h.0 ++ []) (sym (append-nil h.0)) h.2) (omega arith) h.3 (inl refl) h.4 h.5
 partly o bound left left' a b account WriteFault h = h
 partly o bound left left' a b account Memory h = h
 partly o bound left left' a b account BadWords h = absurd h
@@ -180,7 +187,7 @@ flush_no_read SinkMemory result e same = absurd (let both = sym e ∙ same in cc
 pub none_begun : (o : Plan) (bound : ℕ) (left held : Option (List ℕ)) (account : Account) → RunEnds o bound left left held held account Memory
 unfolding output seen
 none_begun o bound left held account =
-    partly-seen o bound left left held held [] [] [] None (same left) (omega arith) (omega arith) refl (none held)
+    partly-seen o bound left left held held [] [] [] (same left) (omega arith) (omega arith) (inl refl) refl (none held)
   where
     same : (left : Option (List ℕ)) → Consumes left left []
     same None = tt

@@ -1,3 +1,5 @@
+pub mod UnitForms
+pub mod Reasons
 pub mod Judging
 pub mod Units
 pub mod Pieces

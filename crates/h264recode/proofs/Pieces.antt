@@ -1,23 +1,21 @@
 -- A piece fed to a recoder.
-use Rattle.std.proofs.Common.{◌≡◌, ℕ, ◌+◌, ◌-◌, ◌^◌, min, List, [], ◌∷◌, ◌++◌, length, map, refl, sym, ap, subst, ◌∙◌, arith, append-nil, Vec, Global}
-use Rattle.std.specs.Prelude.{Option, Some, None, Result, Ok, Err, OnOk, MatchOption, IfNone}
-use Rattle.std.specs.VecDeque.{deque_len}
-use Rattle.std.specs.Option.{option_to_list}
+use Rattle.std.proofs.Common.{◌≡◌, ℕ, List, [], ◌∷◌, ◌++◌, sym, ap, subst, ◌∙◌, append-nil}
+use Rattle.std.specs.Prelude.{Option, Some, None, Result, Ok, Err, OnOk}
 use Rattle.h264_types.specs.declared.fault.Why.{Why}
 use Rattle.h264_types.specs.declared.fault.Stopped.{Stopped}
 use Rattle.h264_types.specs.declared.fault.Stopped.TheVariants.{Stop, Outside, Memory}
-use Rattle.h264_types.specs.Units.{Seen, seen, seen_whole}
+use Rattle.h264_types.specs.Units.{seen, seen_whole}
 use Rattle.h264_types.proofs.Stays.{seen-stays}
-use Rattle.stream_taps.specs.declared.event.Event.{Event}
 use Rattle.annexb_units.specs.declared.splitter.Splitter.{Splitter}
-use Rattle.annexb_units.specs.Splitter.{StandsFor, Feeds, ShowsNone, Shows, EndShowsNone, EndShows}
+use Rattle.annexb_units.specs.Splitter.{Feeds, ShowsNone, Shows, EndShowsNone, EndShows}
 use Rattle.h264recode.specs.declared.plan.Plan.{Plan}
 use Rattle.h264recode.specs.declared.recoder.Recoder.{Recoder}
 use Rattle.h264recode.specs.Items.{Item}
 use Rattle.h264recode.specs.Verdict.{unit_number, Judges, Recodes}
 use Rattle.h264recode.specs.Written.{Written, all_written}
-use Rattle.h264recode.specs.Recoder.{waiting, Holds, HasRecoded, RecodesMore, RecodingStops, EndsAt, RunsOut, IsKept, TakesAll, TakingStops}
-use Rattle.h264recode.proofs.Units.{judges-next, written-first}
+use Rattle.h264recode.specs.Recoder.{waiting, Holds, HasRecoded, RecodesMore, RecodingStops, TakesAll, TakingStops}
+use Rattle.h264recode.proofs.Judging.{length-behind_judged}
+use Rattle.h264recode.proofs.Units.{judges-next}
 
 -- the splitter was fed, and nothing else has changed
 pub record Fed (r0 r1 : Recoder) (piece : List ℕ) : Type 0 where
@@ -28,7 +26,7 @@ pub record Fed (r0 r1 : Recoder) (piece : List ℕ) : Type 0 where
 
 holds-fed : (r0 r1 : Recoder) (piece fed : List ℕ) (drained : List Written) → Fed r0 r1 piece → (h : HasRecoded r0 fed drained) → Holds r1 (fed ++ piece) (seen fed).units h.items drained
 holds-fed r0 r1 piece fed drained k h =
-    let J : Plan → Type 0 = λ o. Judges o 0 (seen fed).units None h.items None in
+    let J : Plan → Type 0 = λ o. Judges o [] (seen fed).units None h.items None in
     let W : Plan → Type 0 = λ o. drained ++ waiting r1 ≡ all_written o (seen fed).units h.items in
     record {
       splitter = k.fed fed (seen fed).units h.holds.splitter;
@@ -49,7 +47,7 @@ fed_stops r0 r1 r2 piece (Outside n why) k t = λ fed drained h.
     subst P k.plan (t (fed ++ piece) (seen fed).units h.items drained (holds-fed r0 r1 piece fed drained k h) s.fault)
 fed_stops r0 r1 r2 piece Memory k t = λ fed drained h.
     let s = t (fed ++ piece) (seen fed).units h.items drained (holds-fed r0 r1 piece fed drained k h) in
-    let J : Plan → Type 0 = λ o. Judges o 0 s.0 None s.2 None in
+    let J : Plan → Type 0 = λ o. Judges o [] s.0 None s.2 None in
     let W : Plan → Type 0 = λ o. drained ++ waiting r2 ≡ all_written o s.0 s.2 in
     (s.0, s.1, s.2, s.3, subst J k.plan s.4, subst W k.plan s.5, (s.6.0, s.6.1 ∙ ap (λ v. v ++ s.6.0) k.waits))
 fed_stops r0 r1 r2 piece (Stop case place) k t = absurd t
@@ -62,13 +60,13 @@ fed_bad r0 r1 r2 r3 piece n why stopped k shows all plan same e =
     let next = all (fed ++ piece) (seen fed).units h.items drained (holds-fed r0 r1 piece fed drained k h) in
     let s = seen (fed ++ piece) in
     let fault = shows fed (seen fed).units h.holds.splitter in
-    let J : Plan → Type 0 = λ o. Judges o 0 s.units None next.0 None in
+    let J : Plan → Type 0 = λ o. Judges o [] s.units None next.0 None in
     let W : Plan → Type 0 = λ o. drained ++ waiting r3 ≡ all_written o s.units next.0 in
-    let judged : Judges r0.plan 0 s.units None next.0 None = subst J (plan ∙ k.plan) next.1.judged in
-    let F : Option Why → Type 0 = λ f. Judges r0.plan 0 s.units f next.0 (Some (Outside n why)) in
-    let U : List (List ℕ) → Type 0 = λ us. Judges r0.plan 0 us (Some why) next.0 (Some (Outside n why)) in (
+    let judged : Judges r0.plan [] s.units None next.0 None = subst J (plan ∙ k.plan) next.1.judged in
+    let F : Option Why → Type 0 = λ f. Judges r0.plan [] s.units f next.0 (Some (Outside n why)) in
+    let U : List (List ℕ) → Type 0 = λ us. Judges r0.plan [] us (Some why) next.0 (Some (Outside n why)) in (
       next.0,
-      subst F (sym fault.0) (subst U (append-nil s.units) (judges-next r0.plan s.units [] (Some why) next.0 (Some (Outside n why)) judged (ap (λ m. Some (Outside m why)) fault.1))),
+      subst F (sym fault.0) (subst U (append-nil s.units) (judges-next r0.plan s.units [] (Some why) next.0 (Some (Outside n why)) judged (ap (λ m. Some (Outside m why)) (fault.1 ∙ ap unit_number (sym (length-behind_judged r0.plan s.units next.0 judged)))))),
       subst W (plan ∙ k.plan) (ap (λ v. drained ++ v) same ∙ next.1.written),
     ))
 

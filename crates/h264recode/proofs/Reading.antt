@@ -18,8 +18,8 @@ use Rattle.h264recode.specs.Account.{account_of}
 use Rattle.h264recode.specs.Items.{Item}
 use Rattle.h264recode.specs.Verdict.{Judges, Recodes}
 use Rattle.h264recode.specs.Written.{Written, all_written, forms, output}
-use Rattle.h264recode.specs.Recoder.{waiting, HasRecoded}
-use Rattle.h264recode.specs.Pieces.{IsReady, PutsPart, PutsAll, PieceEnds, PieceDone, Notes}
+use Rattle.h264recode.specs.Recoder.{waiting}
+use Rattle.h264recode.specs.Pieces.{IsReady, PutsPart, PutsAll, PieceEnds, PieceDone}
 use Rattle.h264recode.specs.Run.{IsPartlyWritten, EndsEarly, RunEnds}
 use Rattle.h264recode.proofs.Judging.{forms-append}
 
@@ -67,8 +67,8 @@ pub record IsRead (o : Plan) (fed : List ℕ) (written : List Written) : Type 0 
 pub read-ready : (r : Recoder) (o : Plan) (fed : List ℕ) (written : List Written) → IsReady r o fed written → IsRead o fed written
 read-ready r o fed written h =
     let k = h.recodes in
-    let F : Option Why → Type 0 = λ f. Judges o 0 (seen fed).units f k.items None in
-    let J : Plan → Type 0 = λ p. Judges p 0 (seen fed).units None k.items None in
+    let F : Option Why → Type 0 = λ f. Judges o [] (seen fed).units f k.items None in
+    let J : Plan → Type 0 = λ p. Judges p [] (seen fed).units None k.items None in
     let W : Plan → Type 0 = λ p. written ++ waiting r ≡ all_written p (seen fed).units k.items in
     record {
       items = k.items;
@@ -116,18 +116,22 @@ too_much o left left1 left2 held held1 r account taken bound piece h e k one =
     (h.fed, piece, read.items, consumes-more left left1 left2 h.fed piece h.consumed k, sym h.count ∙ e, one, read.judged, appends-at held held1 (forms h.written) (output o (seen h.fed).units read.items) (output-put o (seen h.fed).units read.items h.written read.are) h.put)
 
 -- all before the verdict was put
-ends_early : (o : Plan) (left left' held held1 held2 : Option (List ℕ)) (bound : ℕ) (given : List ℕ) (written : List Written) (stopped : Stopped) → Consumes left left' given → length given ≤ bound → Appends held held1 (forms written)
-    → PutsAll o held1 held2 written (seen given) stopped → EndsEarly o bound left left' held held2 stopped
-ends_early o left left' held held1 held2 bound given written stopped consumed within put x = (
-  given,
-  seen given,
-  x.1,
-  consumed,
-  within,
-  inl refl,
-  x.2,
-  appends-more held held1 held2 (forms written) (forms x.0) (output o (seen given).units x.1) (sym (output-put o (seen given).units x.1 (written ++ x.0) x.3) ∙ forms-append written x.0) put x.4,
-)
+ends_early : (o : Plan) (left left' held held1 held2 : Option (List ℕ)) (bound : ℕ) (fed piece : List ℕ) (written : List Written) (stopped : Stopped) → IsRead o fed written → Consumes left left' (fed ++ piece) → length piece ≤ 65536
+    → length (fed ++ piece) ≤ bound → Appends held held1 (forms written) → PutsAll o held1 held2 written (seen (fed ++ piece)) stopped → EndsEarly o bound left left' held held2 stopped
+ends_early o left left' held held1 held2 bound fed piece written stopped read consumed short within put x = record {
+  given = fed;
+  last = piece;
+  consumed = consumed;
+  short = short;
+  within = within;
+  items = read.items;
+  judged = read.judged;
+  all = seen (fed ++ piece);
+  which = inl refl;
+  read = x.1;
+  ends = x.2;
+  written = appends-more held held1 held2 (forms written) (forms x.0) (output o (seen (fed ++ piece)).units x.1) (sym (output-put o (seen (fed ++ piece)).units x.1 (written ++ x.0) x.3) ∙ forms-append written x.0) put x.4;
+}
 
 -- a piece ended the run
 pub step_ends : (o : Plan) (left left1 left2 held held1 held2 : Option (List ℕ)) (r : Recoder) (account account' : Account) (taken n bound : ℕ) (piece : List ℕ) (status : Status) → Reads o left left1 held held1 r account taken → Consumes left1 left2 piece → n ≡ length piece → n ≤ 65536 → taken + n ≤ bound
@@ -161,8 +165,8 @@ step_ends o left left1 left2 held held1 held2 r account account' taken n bound p
           consumed = consumes-at left left2 given (given ++ []) (sym (append-nil given)) consumed;
           short = omega (arith, e);
           within = within;
+          over_is = inl refl;
           items = read.items;
-          verdict = None;
           judged = read.judged;
           all = seen given;
           which = inl refl;
@@ -178,8 +182,8 @@ step_ends o left left1 left2 held held1 held2 r account account' taken n bound p
         }
 
     by : (status : Status) → PieceEnds o held1 held2 h.written (seen given) status → RunEnds o bound left left2 held held2 account' status
-    by (Outside unit why) x = ends_early o left left2 held held1 held2 bound given h.written (OutsideAt unit why) consumed within h.put x
-    by (Stop case place) x = ends_early o left left2 held held1 held2 bound given h.written (StopAt case place) consumed within h.put x
+    by (Outside unit why) x = ends_early o left left2 held held1 held2 bound h.fed piece h.written (OutsideAt unit why) read consumed (omega (arith, e)) within h.put x
+    by (Stop case place) x = ends_early o left left2 held held1 held2 bound h.fed piece h.written (StopAt case place) read consumed (omega (arith, e)) within h.put x
     by WriteFault x = part x
     by Memory x = part x
     by Done x = absurd x
@@ -222,8 +226,8 @@ finish_ends o left left1 left2 held held1 held2 r account account' taken bound s
           consumed = consumes-at left left2 (h.fed ++ []) ((h.fed ++ []) ++ []) (sym (append-nil (h.fed ++ []))) consumed;
           short = omega arith;
           within = omega (arith, within, ap length (append-nil h.fed));
+          over_is = inl refl;
           items = read.items;
-          verdict = None;
           judged = read.judged;
           all = seen whole;
           which = inr (ap (λ v. seen (v ++ 0 ∷ 0 ∷ 0 ∷ [])) (sym (append-nil h.fed)), refl, end);
@@ -239,16 +243,20 @@ finish_ends o left left1 left2 held held1 held2 r account account' taken bound s
         }
 
     stops : (stopped : Stopped) → PutsAll o held1 held2 h.written (seen whole) stopped → EndsEarly o bound left left2 held held2 stopped
-    stops stopped x = (
-      h.fed,
-      seen whole,
-      x.1,
-      consumes-at left left2 (h.fed ++ []) h.fed (append-nil h.fed) consumed,
-      within,
-      inr (refl, end),
-      x.2,
-      appends-more held held1 held2 (forms h.written) (forms x.0) (output o (seen whole).units x.1) (sym (output-put o (seen whole).units x.1 (h.written ++ x.0) x.3) ∙ forms-append h.written x.0) h.put x.4,
-    )
+    stops stopped x = record {
+      given = h.fed;
+      last = [];
+      consumed = consumed;
+      short = omega arith;
+      within = omega (arith, within, ap length (append-nil h.fed));
+      items = read.items;
+      judged = read.judged;
+      all = seen whole;
+      which = inr (ap (λ v. seen (v ++ 0 ∷ 0 ∷ 0 ∷ [])) (sym (append-nil h.fed)), end);
+      read = x.1;
+      ends = x.2;
+      written = appends-more held held1 held2 (forms h.written) (forms x.0) (output o (seen whole).units x.1) (sym (output-put o (seen whole).units x.1 (h.written ++ x.0) x.3) ∙ forms-append h.written x.0) h.put x.4;
+    }
 
     by : (status : Status) → PieceEnds o held1 held2 h.written (seen whole) status → RunEnds o bound left left2 held held2 account' status
     by (Outside unit why) x = stops (OutsideAt unit why) x

@@ -1,17 +1,15 @@
 -- A run over a source that tells its bytes.
-use Rattle.std.proofs.Common.{◌≡◌, ◌⊎◌, ◌∙◌, sym, ap, subst, refl, inl, inr, ℕ, zero, suc, ◌+◌, ◌-◌, ◌<◌, ◌≤◌, Bool, true, false, nat_le, if◌then◌else◌, List, [], ◌∷◌, ◌++◌, length, take, drop, append_assoc, append-nil, length-append, arith}
+use Rattle.std.proofs.Common.{◌≡◌, ◌⊎◌, ◌∙◌, sym, ap, subst, refl, inl, inr, ℕ, ◌+◌, ◌-◌, ◌<◌, ◌≤◌, Bool, true, false, nat_le, if◌then◌else◌, List, [], ◌∷◌, ◌++◌, length, take, drop, append_assoc, append-nil, length-append, arith}
 use Rattle.std.specs.Prelude.{Option, Some, None}
 use Rattle.std.proofs.lemmas.Bool.Decides.{nat_tests}
 use Rattle.std.proofs.lemmas.List.{append_cancel_right, take-append-drop, take-append-le}
 use Rattle.std.proofs.Math.Seq.{take-append-add}
-use Rattle.std.specs.Io.KnownBytes.{Appends, Consumes, Keeps, IsAtEnd}
+use Rattle.std.specs.Io.KnownBytes.{Appends, Consumes, IsAtEnd}
 use Rattle.h264_types.specs.declared.layer.Layer.{Layer}
-use Rattle.h264_types.specs.declared.fault.Why.{Why}
 use Rattle.h264_types.specs.declared.fault.Stopped.{Stopped}
 use Rattle.h264_types.specs.declared.fault.Stopped.TheVariants.{Stop as StopAt, Outside as OutsideAt, Memory as NoMemory}
 use Rattle.h264_types.specs.Units.{Seen, seen, seen_whole}
 use Rattle.h264_types.proofs.Stays.{seen-stays}
-use Rattle.unit_io.proofs.Known.{appends-more}
 use Rattle.h264recode.specs.declared.plan.Plan.{Plan}
 use Rattle.h264recode.specs.declared.account.Account.{Account}
 use Rattle.h264recode.specs.declared.status.Status.{Status}
@@ -22,7 +20,7 @@ use Rattle.h264recode.specs.Written.{output}
 use Rattle.h264recode.specs.Report.{Reports}
 use Rattle.h264recode.specs.Run.{plan_to, RunEnds, IsPartlyWritten, EndsEarly, Ran, IsNoReport, RunAnswers, judged, IsFront, StopsAt, Passes, Leaves, LeavesBy, IsTold, IsDue, IsFault, IsExact, IsPromptFor, IsPrompt}
 use Rattle.h264recode.proofs.Judging.{one-verdict, verdict-stays, output-same, output-front, output-stays}
-use Rattle.h264recode.proofs.Reading.{consumes-at, appends-at}
+use Rattle.h264recode.proofs.Reading.{appends-at}
 use Rattle.h264recode.proofs.Flush.{partly}
 
 -- ## What is judged
@@ -69,14 +67,14 @@ whole-of bound b left' given h fits end =
 -- ## What is left, answer by answer
 
 -- of what is judged, what was written of some first units is a front
-front-of : (o : Plan) (s : Seen) (units later : List (List ℕ)) (read : List Item) (bytes rest : List ℕ) → s.units ≡ units ++ later → Judges o 0 units None read None → output o units read ≡ bytes ++ rest → IsFront o s bytes
+front-of : (o : Plan) (s : Seen) (units later : List (List ℕ)) (read : List Item) (bytes rest : List ℕ) → s.units ≡ units ++ later → Judges o [] units None read None → output o units read ≡ bytes ++ rest → IsFront o s bytes
 front-of o s units later read bytes rest e h out = λ items verdict j.
-    let P : List (List ℕ) → Type 0 = λ us. Judges o 0 us s.fault items verdict in
+    let P : List (List ℕ) → Type 0 = λ us. Judges o [] us s.fault items verdict in
     let front = output-front o units later s.fault read items verdict h (subst P e j) in
     (rest ++ front.0, ap (λ us. output o us items) e ∙ front.1 ∙ ap (λ v. v ++ front.0) out ∙ append_assoc bytes rest front.0)
 
 -- with more bytes the units that have ended stay
-front-stays : (o : Plan) (b c : List ℕ) (units later : List (List ℕ)) (read : List Item) (bytes rest : List ℕ) → (seen b).units ≡ units ++ later → Judges o 0 units None read None → output o units read ≡ bytes ++ rest → IsFront o (seen (b ++ c)) bytes
+front-stays : (o : Plan) (b c : List ℕ) (units later : List (List ℕ)) (read : List Item) (bytes rest : List ℕ) → (seen b).units ≡ units ++ later → Judges o [] units None read None → output o units read ≡ bytes ++ rest → IsFront o (seen (b ++ c)) bytes
 front-stays o b c units later read bytes rest e h out =
     let stays = (seen-stays b c).units in
     front-of o (seen (b ++ c)) units (later ++ stays.0) read bytes rest (stays.1 ∙ ap (λ v. v ++ stays.0) e ∙ append_assoc units later stays.0) h out
@@ -102,22 +100,25 @@ partly_told o bound b left' held held' h = (done, h.appended, by h.which)
         subst P (e.0 ∙ whole-of bound b left' x c h.within e.2) (front-of o h.all h.units h.later h.read done h.rest h.first h.read_is h.written)
 
 early_told : (o : Plan) (bound : ℕ) (b : List ℕ) (left' held held' : Option (List ℕ)) (stopped : Stopped) → EndsEarly o bound (Some b) left' held held' stopped → StopsAt o (judged bound b) held held' stopped
-early_told o bound b left' held held' stopped h = by h.5
+early_told o bound b left' held held' stopped h = by h.which
   where
+    x : List ℕ
+    x = h.given ++ h.last
+
     P : Seen → Type 0
     P s = StopsAt o s held held' stopped
 
-    by : (h.1 ≡ seen h.0) ⊎ ((h.1 ≡ seen_whole h.0) × IsAtEnd left') → StopsAt o (judged bound b) held held' stopped
+    by : (h.all ≡ seen x) ⊎ ((h.all ≡ seen_whole x) × IsAtEnd left') → StopsAt o (judged bound b) held held' stopped
     by (inl e) =
-        let s = split_of b left' h.0 h.3 in
-        let k = judged-of bound b h.0 s.0 s.2 h.4 in
-        let Q : Seen → Type 0 = λ v. Recodes o v h.2 (Some stopped) × Appends held held' (output o v.units h.2) in
-        let here = subst Q e (h.6, h.7) in
-        let later = verdict-stays o h.0 k.0 h.2 stopped here.0 in
-        let same = output-same o h.0 k.0 h.2 stopped here.0 in
+        let s = split_of b left' x h.consumed in
+        let k = judged-of bound b x s.0 s.2 h.within in
+        let Q : Seen → Type 0 = λ v. Recodes o v h.read (Some stopped) × Appends held held' (output o v.units h.read) in
+        let here = subst Q e (h.ends, h.written) in
+        let later = verdict-stays o x k.0 h.read stopped here.0 in
+        let same = output-same o x k.0 h.read stopped here.0 in
         let R : Seen → Type 0 = P in
-        subst R (sym k.1) (h.2, later, appends-at held held' (output o (seen h.0).units h.2) (output o (seen (h.0 ++ k.0)).units h.2) (sym same) here.1)
-    by (inr e) = let Q : Seen → Type 0 = P in subst Q (e.0 ∙ whole-of bound b left' h.0 h.3 h.4 e.1) (h.2, h.6, h.7)
+        subst R (sym k.1) (h.read, later, appends-at held held' (output o (seen x).units h.read) (output o (seen (x ++ k.0)).units h.read) (sym same) here.1)
+    by (inr e) = let Q : Seen → Type 0 = P in subst Q (e.0 ∙ whole-of bound b left' x h.consumed h.within e.1) (h.read, h.ends, h.written)
 
 pub told : (o : Plan) (bound : ℕ) (b : List ℕ) (left' held held' : Option (List ℕ)) (account : Account) (status : Status) → RunEnds o bound (Some b) left' held held' account status → Leaves o bound b left' held held' status
 told o bound b left' held held' account Done h =
@@ -177,10 +178,10 @@ no-report-is-fault answer (inl e) = inr (inr (inr e))
 no-report-is-fault answer (inr e) = inl e
 
 by_none : {A : Type 0} → (o : Plan) (s : Seen) (is js : List Item) (v : Stopped) → Recodes o s is None → Recodes o s js (Some v) → A
-by_none o s is js v a b = absurd (let e = (one-verdict o 0 s.units s.fault is js None (Some v) a b).1 in cc)
+by_none o s is js v a b = absurd (let e = (one-verdict o [] s.units s.fault is js None (Some v) a b).1 in cc)
 
 one_stop : (o : Plan) (s : Seen) (is js : List Item) (v w : Stopped) → Recodes o s is (Some v) → Recodes o s js (Some w) → v ≡ w
-one_stop o s is js v w a b = let e = (one-verdict o 0 s.units s.fault is js (Some v) (Some w) a b).1 in cc
+one_stop o s is js v w a b = let e = (one-verdict o [] s.units s.fault is js (Some v) (Some w) a b).1 in cc
 
 -- a verdict, as an answer
 abbrev answer_at : Stopped → Status
@@ -250,9 +251,9 @@ early_part o bound b left' held held' h taken rest e f items verdict j =
     let short : n ≤ length h.given = omega (arith, ap length spread, length-append h.given (h.last ++ h.over), length-append h.last h.over, h.short) in
     let front : take n taken ≡ take n h.given = ap (take n) spread ∙ take-append-le n h.given (h.last ++ h.over) short in
     let P : List ℕ → Type 0 = λ x. Recodes o (seen x) items verdict in
-    let Q : List ℕ → Type 0 = λ x. Recodes o (seen x) h.items h.verdict in
+    let Q : List ℕ → Type 0 = λ x. Recodes o (seen x) h.items None in
     let back : h.given ≡ take n h.given ++ drop n h.given = sym (take-append-drop n h.given) in
-    let grows = output-stays o (take n h.given) (drop n h.given) items h.items verdict h.verdict (subst P front j) (subst Q back h.judged) in
+    let grows = output-stays o (take n h.given) (drop n h.given) items h.items verdict None (subst P front j) (subst Q back h.judged) in
     let done : output o (seen h.given).units h.items ≡ output o (seen (take n taken)).units items ++ grows.0 =
     ap (λ x. output o (seen x).units h.items) back ∙ grows.1 ∙ ap (λ x. output o (seen x).units items ++ grows.0) (sym front) in (
       grows.0 ++ h.more,

@@ -1,37 +1,44 @@
--- What the units of a stream are read as (7.4.1, table 7-1).
-use Rattle.std.specs.Prelude.{◌≡◌, ℕ, ◌%◌, Bool, true, false, ◌&&◌, ◌||◌, ◌==◌, nat_le, if◌then◌else◌, List, [], ◌∷◌, slice_index}
+-- What the units of a stream are read as (7.3.1, 7.4.1 and table 7-1).
+use Rattle.std.specs.Prelude.{◌≡◌, ℕ, ◌%◌, ◌&&◌, ◌||◌, ◌==◌, nat_le, if◌then◌else◌, List, drop, slice_index}
+use Rattle.bit_texts.specs.Bits.{bits_of}
+use Rattle.exp_golomb.specs.EmulationPrevention.{IsEscape}
+use Rattle.param_sets.specs.PictureParameterSet.{PpsText}
+use Rattle.param_sets.specs.SequenceParameterSet.{SpsText}
+use Rattle.param_sets.specs.declared.pps.Pps.{Pps}
+use Rattle.param_sets.specs.declared.sps.Sps.{Sps}
+use Rattle.h264recode.specs.declared.unit_kind.UnitKind.{UnitKind}
+use Rattle.h264recode.specs.declared.unit_kind.UnitKind.TheVariants.{Carried as IsCarried, Slice as IsSlice, Sps as IsSps, Pps as IsPps, Refused as IsRefused}
 
--- how a unit is treated
-pub data Kind : Type 0 where
-  IsCarried : Kind
-  IsSlice : Kind
-  IsSps : Kind
-  IsPps : Kind
-  IsRefused : Kind
+-- the first byte of a unit
+abbrev pub header_of : List ℕ → ℕ
+header_of unit = slice_index unit 0
 
 -- nal_unit_type, the last five bits of the header byte
 abbrev pub unit_type : List ℕ → ℕ
-unit_type unit = slice_index unit 0 % 32
+unit_type unit = header_of unit % 32
 
--- Supplemental enhancement information, delimiters, ends of sequences and streams, filler data and unspecified types
--- are carried. Slices stand in types 1 and 5, sequence and picture parameter sets in types 7 and 8.
-abbrev pub kind_of_type : ℕ → Kind
+-- Supplemental enhancement information, delimiters, ends of sequences and streams, filler data and the unspecified
+-- types 24 to 31 are carried. Slices stand in types 1 and 5, sequence and picture parameter sets in types 7 and 8.
+abbrev pub kind_of_type : ℕ → UnitKind
 kind_of_type t =
     if (t == 6) || ((nat_le 9 t && nat_le t 12) || nat_le 24 t) then IsCarried
     else (if (t == 1) || (t == 5) then IsSlice else (if t == 7 then IsSps else (if t == 8 then IsPps else IsRefused)))
 
-abbrev pub kind_of : List ℕ → Kind
+abbrev pub kind_of : List ℕ → UnitKind
 kind_of unit = kind_of_type (unit_type unit)
 
--- 00 00 02 or 00 00 03 stands in these bytes
-abbrev pub has_escape : List ℕ → Bool
-has_escape (a ∷ b ∷ c ∷ rest) = ((a == 0) && ((b == 0) && ((c == 2) || (c == 3)))) || has_escape (b ∷ c ∷ rest)
-has_escape _ = false
+-- a unit of this kind with this payload
+abbrev pub IsUnit : UnitKind → List ℕ → List ℕ → Type 0
+IsUnit kind payload unit = (kind_of unit ≡ kind) × IsEscape payload (drop 1 unit)
 
--- what a unit is read as
+-- what a unit is read as; a set stands with its header byte
 pub data Item : Type 0 where
   Carried : List ℕ → Item
+  TheSps : ℕ → Sps → Item
+  ThePps : ℕ → Pps → Item
 
 -- the unit is read as this item
 abbrev pub IsItem : List ℕ → Item → Type 0
-IsItem unit (Carried u) = (kind_of unit ≡ IsCarried) × (has_escape unit ≡ false) × (u ≡ unit)
+IsItem unit (Carried u) = (payload : List ℕ) × IsUnit IsCarried payload unit × (u ≡ unit)
+IsItem unit (TheSps header sps) = (payload : List ℕ) × IsUnit IsSps payload unit × (header ≡ header_of unit) × SpsText sps (bits_of payload)
+IsItem unit (ThePps header pps) = (payload : List ℕ) × IsUnit IsPps payload unit × (header ≡ header_of unit) × PpsText pps (bits_of payload)

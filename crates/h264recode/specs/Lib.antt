@@ -1,4 +1,5 @@
 pub mod Account
+pub mod Forms
 pub mod Items
 pub mod Pieces
 pub mod Recoder

@@ -1,9 +1,9 @@
 -- A piece of a stream, fed and written.
-use Rattle.std.specs.Prelude.{◌≡◌, ℕ, ◌≤◌, List, [], ◌∷◌, ◌++◌, length, map, take, Option, Some, None, Result, Ok, Err}
+use Rattle.std.specs.Prelude.{◌≡◌, ℕ, ◌≤◌, List, [], ◌++◌, length, map, take, Option, Some, None, Result, Ok, Err}
 use Rattle.std.specs.Io.KnownBytes.{Appends, Consumes, Keeps, IsAtEnd}
 use Rattle.h264_types.specs.declared.fault.Stopped.{Stopped}
 use Rattle.h264_types.specs.declared.fault.Stopped.TheVariants.{Stop as StopAt, Outside as OutsideAt, Memory as NoMemory}
-use Rattle.h264_types.specs.Units.{Seen, seen}
+use Rattle.h264_types.specs.Units.{Seen}
 use Rattle.stream_taps.specs.declared.event.Event.{Event}
 use Rattle.unit_io.specs.declared.sink.SinkFault.{SinkFault}
 use Rattle.unit_io.specs.declared.sink.SinkFault.TheVariants.{Failed as SinkFailed, Memory as SinkMemory}
@@ -26,7 +26,7 @@ pub record IsReady (r : Recoder) (o : Plan) (fed : List ℕ) (written : List Wri
 
 -- this is what is written for some first units
 abbrev pub IsWrittenOf : Plan → Seen → List Written → Type 0
-IsWrittenOf o s written = (units : List (List ℕ)) × (later : List (List ℕ)) × (items : List Item) × (s.units ≡ units ++ later) × Judges o 0 units None items None
+IsWrittenOf o s written = (units : List (List ℕ)) × (later : List (List ℕ)) × (items : List Item) × (s.units ≡ units ++ later) × Judges o [] units None items None
     × (written ≡ all_written o units items)
 
 -- the account counts these too

@@ -1,5 +1,5 @@
 -- What a recoder holds, by the bytes that it was fed and what was drained from it.
-use Rattle.std.specs.Prelude.{◌≡◌, ℕ, ◌-◌, ◌^◌, ◌+◌, min, List, [], ◌∷◌, ◌++◌, length, map, Option, Some, None}
+use Rattle.std.specs.Prelude.{◌≡◌, ℕ, ◌+◌, List, [], ◌∷◌, ◌++◌, length, map, Option, Some, None}
 use Rattle.std.specs.VecDeque.{deque_len}
 use Rattle.h264_types.specs.declared.fault.Why.{Why}
 use Rattle.h264_types.specs.declared.fault.Stopped.{Stopped}
@@ -8,6 +8,8 @@ use Rattle.h264_types.specs.Units.{Seen, seen}
 use Rattle.annexb_units.specs.Splitter.{StandsFor}
 use Rattle.h264recode.specs.declared.plan.Plan.{Plan}
 use Rattle.h264recode.specs.declared.recoder.Recoder.{Recoder}
+use Rattle.h264recode.specs.declared.unit_form.UnitFault.{UnitFault}
+use Rattle.h264recode.specs.declared.unit_form.UnitFault.TheVariants.{Outside as OutsideFault, Memory as NoMemory}
 use Rattle.h264recode.specs.Items.{Item, IsItem}
 use Rattle.h264recode.specs.Verdict.{unit_number, Refuses, stop_of, Judges, Recodes}
 use Rattle.h264recode.specs.Written.{Written, written_of, all_written}
@@ -32,7 +34,7 @@ IsStopped r stopped = r.stopped ≡ Some stopped
 -- waits.
 pub record Holds (r : Recoder) (fed : List ℕ) (taken : List (List ℕ)) (items : List Item) (drained : List Written) : Type 0 where
   pub splitter : StandsFor r.splitter fed taken
-  pub judged : Judges r.plan 0 taken None items None
+  pub judged : Judges r.plan [] taken None items None
   pub written : drained ++ waiting r ≡ all_written r.plan taken items
   pub count : r.units ≡ unit_number (length taken)
 
@@ -56,7 +58,7 @@ EndsAt old new s drained stopped =
 -- what is written for some first units was drained or waits, and nothing that waited is lost
 abbrev pub RunsOut : Recoder → Recoder → Seen → List Written → Type 0
 RunsOut old new s drained =
-    (units : List (List ℕ)) × (later : List (List ℕ)) × (items : List Item) × (s.units ≡ units ++ later) × Judges old.plan 0 units None items None
+    (units : List (List ℕ)) × (later : List (List ℕ)) × (items : List Item) × (s.units ≡ units ++ later) × Judges old.plan [] units None items None
     × (drained ++ waiting new ≡ all_written old.plan units items) × ((more : List Written) × (waiting new ≡ waiting old ++ more))
 
 -- recoding stopped in this piece: at the verdict of the bytes, or for want of memory
@@ -84,11 +86,16 @@ pub record IsKept (old new : Recoder) : Type 0 where
 pub record Adds (old new : Recoder) (unit : List ℕ) : Type 0 where
   pub item : Item
   pub read : IsItem unit item
-  pub goes_on : stop_of old.plan item ≡ None
+  pub goes_on : (before : List Item) → stop_of old.plan before item ≡ None
   pub waits : waiting new ≡ waiting old ++ written_of old.plan unit item ∷ []
   pub count : new.units ≡ unit_number (old.units + 1)
   pub stopped : new.stopped ≡ old.stopped
   pub plan : new.plan ≡ old.plan
+
+-- how a fault of the unit of this number stops
+abbrev pub stopped_at : ℕ → UnitFault → Stopped
+stopped_at n (OutsideFault why) = Outside n why
+stopped_at n NoMemory = Memory
 
 -- a unit that has no item, or no memory for what is written
 abbrev pub IsRefusedBy : Recoder → List ℕ → Stopped → Type 0

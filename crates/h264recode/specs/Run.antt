@@ -1,17 +1,17 @@
 -- What a run leaves, by the bytes that its source gave and what its sinks took.
-use Rattle.std.specs.Prelude.{◌≡◌, ◌⊎◌, ℕ, ◌+◌, ◌-◌, ◌<◌, ◌≤◌, nat_le, if◌then◌else◌, List, [], ◌++◌, length, map, take, Option, Some, None, Result, Ok, Err}
+use Rattle.std.specs.Prelude.{◌≡◌, ◌⊎◌, ℕ, ◌+◌, ◌-◌, ◌<◌, ◌≤◌, nat_le, if◌then◌else◌, List, [], ◌++◌, length, map, take, Option, Some, None}
 use Rattle.std.specs.Io.KnownBytes.{Appends, Consumes, Keeps, IsAtEnd}
 use Rattle.h264_types.specs.declared.layer.Layer.{Layer}
 use Rattle.h264_types.specs.declared.fault.Stopped.{Stopped}
-use Rattle.h264_types.specs.declared.fault.Stopped.TheVariants.{Stop as StopAt, Outside as OutsideAt, Memory as NoMemory}
+use Rattle.h264_types.specs.declared.fault.Stopped.TheVariants.{Stop as StopAt, Outside as OutsideAt}
 use Rattle.h264_types.specs.Units.{Seen, seen, seen_whole}
 use Rattle.h264recode.specs.declared.plan.Plan.{Plan}
 use Rattle.h264recode.specs.declared.account.Account.{Account}
 use Rattle.h264recode.specs.declared.status.Status.{Status}
-use Rattle.h264recode.specs.declared.status.Status.TheVariants.{Ok as Done, BadWords, ReadFault, WriteFault, Stop, Outside, TooMuch, Memory, ReportFault, BadTable}
+use Rattle.h264recode.specs.declared.status.Status.TheVariants.{Ok as Done, BadWords, ReadFault, WriteFault, Stop, Outside, TooMuch, Memory, ReportFault}
 use Rattle.h264recode.specs.Items.{Item}
 use Rattle.h264recode.specs.Verdict.{Judges, Recodes}
-use Rattle.h264recode.specs.Written.{Written, all_written, forms, output}
+use Rattle.h264recode.specs.Written.{all_written, output}
 use Rattle.h264recode.specs.Account.{account_of}
 use Rattle.h264recode.specs.Report.{Reports}
 
@@ -21,9 +21,12 @@ plan_to layer = record { to = layer; range = None }
 
 -- ## By the bytes that the source gave
 
--- Some output was written: all that of the bytes given before a last piece, and some more of what is written for some
--- first units of all that were given. The last piece is of at most 65,536 bytes. It counts the one byte past the bound,
--- which is taken and not judged.
+-- no byte past the bound, or the one that tells that the source has more; it is not judged
+abbrev pub IsOver : ℕ → List ℕ → List ℕ → Type 0
+IsOver bound given over = (over ≡ []) ⊎ ((length over ≡ 1) × (length given ≡ bound))
+
+-- Some output was written: all that of the bytes given before a last piece of at most 65,536 bytes, in which no verdict
+-- stands, and some more of what is written for some first units of all that were given.
 pub record IsPartlyWritten (o : Plan) (bound : ℕ) (left left' held held' : Option (List ℕ)) : Type 0 where
   pub given : List ℕ
   pub last : List ℕ
@@ -31,27 +34,36 @@ pub record IsPartlyWritten (o : Plan) (bound : ℕ) (left left' held held' : Opt
   pub consumed : Consumes left left' ((given ++ last) ++ over)
   pub short : length last + length over ≤ 65536
   pub within : length (given ++ last) ≤ bound
+  pub over_is : IsOver bound (given ++ last) over
   pub items : List Item
-  pub verdict : Option Stopped
-  pub judged : Recodes o (seen given) items verdict
+  pub judged : Recodes o (seen given) items None
   pub all : Seen
   pub which : (all ≡ seen (given ++ last)) ⊎ ((all ≡ seen_whole (given ++ last)) × (over ≡ []) × IsAtEnd left')
   pub units : List (List ℕ)
   pub later : List (List ℕ)
   pub first : all.units ≡ units ++ later
   pub read : List Item
-  pub read_is : Judges o 0 units None read None
+  pub read_is : Judges o [] units None read None
   pub more : List ℕ
   pub rest : List ℕ
   pub appended : Appends held held' (output o (seen given).units items ++ more)
   pub written : output o units read ≡ (output o (seen given).units items ++ more) ++ rest
 
--- a verdict ended the run, and what is written for the units before it was written
-abbrev pub EndsEarly : Plan → ℕ → Option (List ℕ) → Option (List ℕ) → Option (List ℕ) → Option (List ℕ) → Stopped → Type 0
-EndsEarly o bound left left' held held' stopped =
-    (given : List ℕ) × (s : Seen) × (items : List Item) × Consumes left left' given × (length given ≤ bound)
-    × ((s ≡ seen given) ⊎ ((s ≡ seen_whole given) × IsAtEnd left'))
-    × Recodes o s items (Some stopped) × Appends held held' (output o s.units items)
+-- A verdict ended the run, and what is written for the units before it was written. It came with a last piece of at most
+-- 65,536 bytes, or with the end of the input: none stands in the bytes given before.
+pub record EndsEarly (o : Plan) (bound : ℕ) (left left' held held' : Option (List ℕ)) (stopped : Stopped) : Type 0 where
+  pub given : List ℕ
+  pub last : List ℕ
+  pub consumed : Consumes left left' (given ++ last)
+  pub short : length last ≤ 65536
+  pub within : length (given ++ last) ≤ bound
+  pub items : List Item
+  pub judged : Recodes o (seen given) items None
+  pub all : Seen
+  pub which : (all ≡ seen (given ++ last)) ⊎ ((all ≡ seen_whole (given ++ last)) × IsAtEnd left')
+  pub read : List Item
+  pub ends : Recodes o all read (Some stopped)
+  pub written : Appends held held' (output o all.units read)
 
 -- How recoding at most bound bytes ended.
 abbrev pub RunEnds : Plan → ℕ → Option (List ℕ) → Option (List ℕ) → Option (List ℕ) → Option (List ℕ) → Account → Status → Type 0

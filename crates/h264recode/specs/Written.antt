@@ -1,21 +1,46 @@
 -- What is written for a stream.
-use Rattle.std.specs.Prelude.{ℕ, List, [], ◌∷◌, length, map}
+use Rattle.std.specs.Prelude.{ℕ, ◌-◌, List, [], ◌∷◌, length, map, Option, Some, None}
 use Rattle.std.specs.List.{concat}
+use Rattle.bit_texts.specs.Bits.{bytes_of}
+use Rattle.exp_golomb.specs.EmulationPrevention.{escaped}
 use Rattle.stream_taps.specs.declared.event.Event.{Event}
+use Rattle.h264_types.specs.declared.layer.Layer.{Layer}
+use Rattle.param_sets.specs.PpsCodes.{pps_in, pps_text}
+use Rattle.param_sets.specs.SpsCodes.{sps_text, without_constraints}
+use Rattle.param_sets.specs.declared.pps.Pps.{Pps}
+use Rattle.param_sets.specs.declared.sps.Sps.{Sps}
 use Rattle.h264recode.specs.declared.plan.Plan.{Plan}
-use Rattle.h264recode.specs.Items.{unit_type, Item, Carried}
+use Rattle.h264recode.specs.Items.{unit_type, Item, Carried, TheSps, ThePps}
 
 -- a unit behind zero_byte and start_code_prefix_one_3bytes (B.1.1)
 abbrev pub with_start_code : List ℕ → List ℕ
 with_start_code unit = 0 ∷ 0 ∷ 0 ∷ 1 ∷ unit
 
+-- a sequence parameter set is written without constraint_set0_flag and constraint_set2_flag, which promise streams
+-- without CABAC
+abbrev pub sps_unit : ℕ → Sps → List ℕ
+sps_unit header sps = header ∷ escaped (bytes_of (sps_text (without_constraints sps)))
+
+-- a picture parameter set is written in the wanted layer
+abbrev pub pps_unit : Layer → ℕ → ℕ → Pps → List ℕ
+pps_unit to number header pps = header ∷ escaped (bytes_of (pps_text (pps_in to number pps)))
+
+-- in a partial run as it was read, and in the wanted layer under another number
+abbrev pub pps_units : Plan → Option (ℕ × ℕ) → List ℕ → ℕ → Pps → List (List ℕ)
+pps_units o None unit header pps = pps_unit o.to pps.pic_parameter_set_id header pps ∷ []
+pps_units o (Some range) unit header pps = unit ∷ pps_unit o.to (255 - pps.pic_parameter_set_id) header pps ∷ []
+
 -- the units that are written for a unit, which is read as this item
 abbrev pub units_for : Plan → List ℕ → Item → List (List ℕ)
 units_for o unit (Carried u) = u ∷ []
+units_for o unit (TheSps header sps) = sps_unit header sps ∷ []
+units_for o unit (ThePps header pps) = pps_units o o.range unit header pps
 
 -- the macroblocks of a slice
 abbrev pub macroblocks_of : Item → ℕ
 macroblocks_of (Carried u) = 0
+macroblocks_of (TheSps header sps) = 0
+macroblocks_of (ThePps header pps) = 0
 
 -- the bytes that are written for a unit
 abbrev pub form_of : Plan → List ℕ → Item → List ℕ

@@ -16,8 +16,8 @@ pub fn one_reason()
 
 /// What is seen has one verdict at most, with the same items before it.
 pub fn one_verdict()
-    ensures { (o : Plan) (n : ℕ) (units : List (List ℕ)) (fault : Option Why) (first second : List Item) (v w : Option Stopped) →
-        Judges o n units fault first v → Judges o n units fault second w → (first ≡ second) × (v ≡ w) }
+    ensures { (o : Plan) (before : List Item) (units : List (List ℕ)) (fault : Option Why) (first second : List Item) (v w : Option Stopped) →
+        Judges o before units fault first v → Judges o before units fault second w → (first ≡ second) × (v ≡ w) }
 {}
 
 /// All that is seen has a verdict or is read to its end.

@@ -1,5 +1,6 @@
-//! `h264recode`: rewrites an H.264 byte stream from standard input to standard output, with the slices of another
-//! entropy layer and nothing else changed, and reports on standard error how that ended.
+//! `h264recode`: rewrites an H.264 byte stream (ITU-T H.264, annex B) from standard input to standard output for
+//! another entropy layer, and reports on standard error how that ended. Parameter sets are rewritten, the units beside
+//! them are carried, and a slice ends the run, since slices aren't read yet.
 //! The top call is `run::run`, and its contract is what the program promises.
 #![tactic(auto)]
 
@@ -12,6 +13,8 @@ pub mod run;
 pub mod status;
 #[cfg(test)]
 mod tests;
+mod unit_form;
+mod unit_kind;
 pub mod words;
 
 use status::Status;

@@ -1,12 +1,13 @@
 //! The recoder: the bytes of a stream in, written units out.
 ghost use Rattle.std.specs.Prelude.{◌≡◌, ◌+◌, ◌∷◌, ◌++◌, [], ℕ, List, length, map, Some, None, OnOk, OnErr, OnSome, Err, IfErr, IfOk, IfSome, IfNone};
-ghost use Rattle.h264recode.specs.Items.{Carried, has_escape, unit_type};
-ghost use Rattle.h264recode.specs.Verdict.{IsReason};
-ghost use Rattle.h264recode.specs.Written.{Written, written_of};
+ghost use Rattle.h264recode.specs.Items.{unit_type};
+ghost use Rattle.h264recode.specs.Written.{Written};
 
 use crate::plan::Plan;
+use crate::unit_form::{UnitFault, unit_form};
+use crate::unit_kind::unit_type;
 use annexb_units::{SplitFault, Splitter};
-use h264_types::{Stopped, Why};
+use h264_types::Stopped;
 use std::alloc::{AllocError as Memory, Global};
 use std::collections::VecDeque;
 use stream_taps::Event;
@@ -23,10 +24,11 @@ pub struct Recoder {
     /// The number of units that were read.
     units: u64,
     stopped: Option<Stopped>,
+    ghost whole: { plan.range ≡ None },
 }
 
 impl Recoder {
-    ghost use Rattle.h264recode.specs.Recoder.{waiting, waiting_count, plan_of, IsStopped, HasRecoded, RecodesMore, RecodingStops, Drains, IsKept, Adds, IsRefusedBy, TakesAll, TakingStops};
+    ghost use Rattle.h264recode.specs.Recoder.{waiting, waiting_count, plan_of, IsStopped, HasRecoded, RecodesMore, RecodingStops, Drains, IsKept, Adds, IsRefusedBy, stopped_at, TakesAll, TakingStops};
 
     /// A recoder at the beginning of a stream, for a run that is not partial.
     pub fn new(alloc: Global, plan: Plan) -> Result<Recoder, Memory>
@@ -121,18 +123,30 @@ impl Recoder {
         ensures stops { IfErr result (λ e. self.new.stopped ≡ Some e) }
         ensures plan { self.new.plan ≡ self.old.plan }
     {
-        if let Some(why) = refusal(unit) {
-            let unit = self.units;
-            return Err(self.stop(Stopped::Outside { unit, why }));
-        }
-        let Ok(written) = write_carried(self.alloc, unit) else {
-            return Err(self.stop(Stopped::Memory));
+        let form = match unit_form(self.alloc, self.plan, unit) {
+            Ok(form) => form,
+            Err(fault) => return Err(self.refuse(fault)),
         };
-        let Ok(()) = self.forms.push_back(written) else {
+        let event = event_of(unit, form.as_slice());
+        let Ok(()) = self.forms.push_back((form, event)) else {
             return Err(self.stop(Stopped::Memory));
         };
         self.units = self.units.saturating_add(1);
         Ok(())
+    }
+
+    // Stops at the next unit.
+    fn refuse(&mut self, fault: UnitFault) -> Stopped
+        ensures value { result ≡ stopped_at self.old.units fault }
+        ensures after { self.new ≡ record self.old { stopped = Some (stopped_at self.old.units fault) } }
+    {
+        match fault {
+            UnitFault::Outside(why) => self.stop(Stopped::Outside {
+                unit: self.units,
+                why,
+            }),
+            UnitFault::Memory => self.stop(Stopped::Memory),
+        }
     }
 
     // Stops for good.
@@ -145,59 +159,14 @@ impl Recoder {
     }
 }
 
-// nal_unit_type, the last five bits of the header byte (7.3.1).
-fn unit_type(unit: &[u8]) -> u8
-    ensures { result ≡ unit_type unit.now }
+// The event of a unit that is no slice.
+fn event_of(unit: &[u8], form: &[u8]) -> Event
+    ensures { result ≡ record { kind = unit_type unit.now; macroblocks = 0; bytes_in = length unit.now; bytes_out = length form.now } }
 {
-    match unit {
-        [header, ..] => *header % 32,
-        [] => 0,
-    }
-}
-
-// Why a unit has no item, if it has none.
-fn refusal(unit: &[u8]) -> Option<Why>
-    ensures { IsReason unit.now result }
-{
-    match unit_type(unit) {
-        6 | 9..=12 | 24.. => {
-            if has_escape(unit) {
-                Some(Why::Unbuilt)
-            } else {
-                None
-            }
-        }
-        1 | 5 | 7 | 8 => Some(Why::Unbuilt),
-        _ => Some(Why::Kind),
-    }
-}
-
-// Whether 00 00 02 or 00 00 03 stands in the bytes.
-fn has_escape(bytes: &[u8]) -> bool
-    ensures { result ≡ has_escape bytes.now }
-{
-    let mut rest = bytes;
-    while let [first, behind @ ..] = rest {
-        if *first == 0 && matches!(behind, [0, 2 | 3, ..]) {
-            return true;
-        }
-        rest = behind;
-    }
-    false
-}
-
-// What is written for a carried unit: the unit behind a start code of four bytes.
-fn write_carried(alloc: Global, unit: &[u8]) -> Result<(Vec<u8>, Event), Memory>
-    ensures { IfOk result (λ w. (plan : _) → record { form = w.0.items; event = w.1 } ≡ written_of plan unit.now (Carried unit.now)) }
-{
-    let mut form = Vec::with_capacity(alloc, 4 + unit.len())?;
-    form.extend_from_slice(&[0, 0, 0, 1])?;
-    form.extend_from_slice(unit)?;
-    let event = Event {
+    Event {
         kind: unit_type(unit),
         macroblocks: 0,
         bytes_in: unit.len() as u64,
         bytes_out: form.len() as u64,
-    };
-    Ok((form, event))
+    }
 }

@@ -1,4 +1,4 @@
-// What no clause says: the rows of outside vectors, and that memory suffices for them.
+// What no clause says: the answers to known streams, and that memory suffices for them.
 
-mod rows;
+mod runs;
 mod words;

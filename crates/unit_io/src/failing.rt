@@ -13,7 +13,8 @@ pub(crate) struct Failing {
 impl Failing {
     /// Counts a call, and says whether it fails.
     pub(crate) fn next(&mut self) -> bool
-        ensures later { failures self.old.numbers.items self.old.calls ≤ failures self.new.numbers.items self.new.calls }
+        ensures later { failures self.old.numbers.items self.old.calls
+            ≤ failures self.new.numbers.items self.new.calls }
         ensures fails { IsTrue result ↔
             (failures self.old.numbers.items self.old.calls < failures self.new.numbers.items self.new.calls) }
     {

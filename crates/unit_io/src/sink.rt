@@ -32,7 +32,8 @@ pub trait Sink {
         ensures bound { WritesAtMost result piece.now }
         ensures bytes { WriteAppends (held self.old) (held self.new) result piece.now }
         ensures cause { HasSinkCause (faults self.old) (faults self.new) result }
-        ensures stuck { IfOk result (λ n. n ≡ 0 → 0 < length piece.now → Rose (faults self.old) (faults self.new)) };
+        ensures stuck { IfOk result (λ n. n ≡ 0 → 0 < length piece.now
+            → Rose (faults self.old) (faults self.new)) };
 
     /// Passes on what it took.
     fn flush(&mut self) -> Result<(), SinkFault>

@@ -1,5 +1,9 @@
 // Standard input as a source.
 ghost use Rattle.std.specs.Prelude.{◌≡◌, None};
+ghost use Rattle.std.specs.Io.{ReadsAtMost};
+ghost use Rattle.std.specs.Io.KnownBytes.{ReadConsumes};
+ghost use Rattle.unit_io.specs.Faults.{HasCause};
+ghost use Rattle.unit_io.specs.Standard.{reader_left};
 
 use crate::{Failed, Source};
 use std::io::{ErrorKind, Read};
@@ -15,6 +19,7 @@ impl<R: Read> StdSource<R> {
     /// A source that has not failed yet. It takes no memory.
     pub fn new(reader: R) -> StdSource<R>
         ensures faults { ⟦<StdSource<R> as Source>⟧.faults result ≡ 0 }
+        ensures reader { reader_left R.remaining result ≡ R.remaining reader }
     {
         StdSource { reader, faults: 0 }
     }
@@ -25,7 +30,17 @@ impl<R: Read> Source for StdSource<R> {
 
     ghost faults = { λ s. s.faults };
 
-    fn read(&mut self, buf: &mut [u8]) -> Result<usize, Failed> {
+    fn read(&mut self, buf: &mut [u8]) -> Result<usize, Failed>
+        ensures bound { ReadsAtMost result buf.new }
+        ensures bytes { ReadConsumes (⟦<StdSource<R> as Source>⟧.left self.old)
+            (⟦<StdSource<R> as Source>⟧.left self.new) result buf.new }
+        ensures cause { HasCause (⟦<StdSource<R> as Source>⟧.faults self.old)
+            (⟦<StdSource<R> as Source>⟧.faults self.new) result }
+
+        // It gives what its reader gives.
+        ensures reader { ReadConsumes (reader_left R.remaining self.old)
+            (reader_left R.remaining self.new) result buf.new }
+    {
         // A signal may interrupt a read, which is then tried again.
         for _ in 0..u64::MAX {
             match self.reader.read(buf) {

@@ -1,6 +1,6 @@
 use Rattle.std.proofs.Common.{◌≡◌, drop, length}
 use Rattle.exp_golomb.specs.EmulationPrevention.{payload_of}
-use Rattle.annexb_units.proofs.Zeros.{payload_behind}
+use Rattle.annexb_units.specs.Zeros.{payload_behind}
 use Rattle.annexb_units.proofs.unescaping.unescape.Given as goal
 
 abbrev pub invariant-loop-zero : goal.invariant-loop-zero

@@ -1,9 +1,10 @@
+use Rattle.std.proofs.Common.{[]}
 use Rattle.h264_types.specs.Units.{seen, seen_whole}
 use Rattle.h264recode.proofs.Judging.{judged-all}
 use Rattle.h264recode.proofs.laws.all_is_judged.Goals as goal
 
 pub returns : goal.returns
 returns c = record {
-  whole = λ o b. judged-all o 0 (seen_whole b).units (seen_whole b).fault;
-  so_far = λ o b. judged-all o 0 (seen b).units (seen b).fault;
+  whole = λ o b. judged-all o [] (seen_whole b).units (seen_whole b).fault;
+  so_far = λ o b. judged-all o [] (seen b).units (seen b).fault;
 }

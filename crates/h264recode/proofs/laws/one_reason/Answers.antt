@@ -1,4 +1,4 @@
-use Rattle.h264recode.proofs.Judging.{not-refused, refused-once}
+use Rattle.h264recode.proofs.Reasons.{not-refused, refused-once}
 use Rattle.h264recode.proofs.laws.one_reason.Goals as goal
 
 pub returns : goal.returns

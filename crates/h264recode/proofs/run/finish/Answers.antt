@@ -1,4 +1,4 @@
-use Rattle.std.proofs.Common.{ℕ, [], ◌∷◌}
+use Rattle.std.proofs.Common.{[], ◌∷◌}
 use Rattle.h264recode.proofs.Feeding.{leaves, piece_done, piece_stops, piece_part, rose-fault, rose-stop}
 use Rattle.h264recode.proofs.run.finish.Goals as goal
 

@@ -1,4 +1,4 @@
-use Rattle.std.proofs.Common.{[], refl, subst}
+use Rattle.std.proofs.Common.{subst}
 use Rattle.h264_types.specs.Units.{seen}
 use Rattle.h264recode.specs.declared.plan.Plan.{Plan}
 use Rattle.h264recode.specs.Run.{RunEnds}

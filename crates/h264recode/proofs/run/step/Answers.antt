@@ -1,4 +1,3 @@
-use Rattle.std.proofs.Common.{ℕ, [], ◌∷◌}
 use Rattle.h264recode.proofs.Feeding.{leaves, piece_done, piece_stops, piece_part, rose-fault, rose-stop}
 use Rattle.h264recode.proofs.run.step.Goals as goal
 

@@ -1,4 +1,4 @@
-use Rattle.std.proofs.Common.{◌≡◌, ◌+◌, ◌∙◌, arith, sym, take, drop, List, ℕ, subst, length, length-drop}
+use Rattle.std.proofs.Common.{◌≡◌, arith, sym, take, drop, List, ℕ, subst, length-drop}
 use Rattle.std.proofs.lemmas.List.{take_all, take_rest, take-append-drop}
 use Rattle.std.proofs.lemmas.Result.{err_from_is_err_and}
 use Rattle.h264_types.specs.declared.fault.Why.{Why}

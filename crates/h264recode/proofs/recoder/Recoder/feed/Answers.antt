@@ -11,7 +11,7 @@ returns-in-Some-clause-err c = stopped_before c.args.self.now c.args.piece.now c
 pub returns-in-Ok-clause-ok : goal.returns-in-Ok-clause-ok
 returns-in-Ok-clause-ok c =
     let r = c.args.self.now in
-    let between : Recoder = record r { splitter = c.feed.new.self } in
+    let between : Recoder = record r { splitter = c.feed.new.self; whole = c.self-1.given.0 } in
     let k = c.in-Ok.ensures.ok in
     let t = c.take_ended.new.self in
     on_ok_two (TakesAll between t) (t.stopped ≡ between.stopped) (RecodesMore r t c.args.piece.now) c.take_ended.result
@@ -20,14 +20,14 @@ returns-in-Ok-clause-ok c =
 pub returns-in-Ok-clause-err : goal.returns-in-Ok-clause-err
 returns-in-Ok-clause-err c =
     let r = c.args.self.now in
-    let between : Recoder = record r { splitter = c.feed.new.self } in
+    let between : Recoder = record r { splitter = c.feed.new.self; whole = c.self-1.given.0 } in
     IfErr-weaker c.take_ended.result (TakingStops between c.take_ended.new.self) (RecodingStops r c.take_ended.new.self c.args.piece.now)
     (λ e t. fed_stops r between c.take_ended.new.self c.args.piece.now e record { fed = c.in-Ok.ensures.ok.0; waits = refl; units = refl; plan = refl } t) c.take_ended.ensures.err
 
 pub returns-in_err-take_ended-in-Err-Bad-clause-err : goal.returns-in_err-take_ended-in-Err-Bad-clause-err
 returns-in_err-take_ended-in-Err-Bad-clause-err c =
     let r = c.args.self.now in
-    let between : Recoder = record r { splitter = c.feed.new.self } in
+    let between : Recoder = record r { splitter = c.feed.new.self; whole = c.self-1.given.0 } in
     let p = err_from_is_err_and c.from_residual.result c.from_residual.ensures.1 in
     let k = rw c.in-Err-Bad.field-0-is at c.in-Err-Bad.ensures.err in
     rw (p.1, p.2) (fed_stops r between c.take_ended-in-Err-Bad.new.self c.args.piece.now c.in_err-take_ended-in-Err-Bad.field-0.0 record { fed = k.0; waits = refl; units = refl; plan = refl } c.in_err-take_ended-in-Err-Bad.ensures.err)
@@ -35,7 +35,7 @@ returns-in_err-take_ended-in-Err-Bad-clause-err c =
 pub returns-in_ok-take_ended-in-Err-Bad-clause-err : goal.returns-in_ok-take_ended-in-Err-Bad-clause-err
 returns-in_ok-take_ended-in-Err-Bad-clause-err c =
     let r = c.args.self.now in
-    let between : Recoder = record r { splitter = c.feed.new.self } in
+    let between : Recoder = record r { splitter = c.feed.new.self; whole = c.self-1.given.0 } in
     let k = rw c.in-Err-Bad.field-0-is at c.in-Err-Bad.ensures.err in
     fed_bad r between c.take_ended-in-Err-Bad.new.self c.stop.new.self c.args.piece.now c.in-Err-Bad.unit c.in-Err-Bad.why c.stop.result record { fed = k.0; waits = refl; units = refl; plan = refl }
     k.1 c.in_ok-take_ended-in-Err-Bad.ensures.ok c.in_ok-take_ended-in-Err-Bad.ensures.plan (ap waiting c.stop.ensures.after) c.stop.ensures.value

@@ -1,8 +1,7 @@
-use Rattle.std.proofs.Common.{◌≡◌, ◌∙◌, ◌++◌, ◌∷◌, [], ℕ, List, sym, ap, subst, refl, append_assoc}
+use Rattle.std.proofs.Common.{◌∙◌, ◌++◌, ◌∷◌, [], sym, ap, subst, refl, append_assoc}
 use Rattle.std.proofs.lemmas.Result.{err_from_is_err_and}
 use Rattle.annexb_units.specs.declared.splitter.Splitter.{Splitter}
 use Rattle.annexb_units.specs.Splitter.{Takes}
-use Rattle.h264recode.specs.declared.recoder.Recoder.{Recoder}
 use Rattle.h264recode.specs.Written.{written_of}
 use Rattle.h264recode.specs.Recoder.{waiting}
 use Rattle.h264recode.proofs.Units.{adds-taken, refused-taken, took-more, none_more, all_more}
@@ -14,7 +13,7 @@ loop-unit-preserved c =
     let r = c.loop-unit.self in
     let r' = c.recode.new.self in
     let u = c.in-Some.unit.items in
-    let a = adds-taken r c.take_unit.new.self r' u c.deref.result.now c.deref.ensures.value c.in_ok-recode.ensures.ok in
+    let a = adds-taken r c.take_unit.new.self c.self-1.given.0 r' u c.deref.result.now c.deref.ensures.value c.in_ok-recode.ensures.ok in
     let P : Splitter → Type 0 = λ s. Takes r.splitter s u in
     record {
       holds = took-more c.args.self.now r r' u i.holds (subst P (sym c.recode.ensures.splitter) c.in-Some.ensures.some) a;
@@ -34,4 +33,4 @@ returns-in_err-recode-clause-err c =
     let p = err_from_is_err_and c.from_residual.result c.from_residual.ensures.1 in
     let u = c.in-Some.unit.items in
     rw (p.1, p.2) (none_more c.args.self.now r c.recode.new.self c.take_unit.new.self u c.in_err-recode.field-0.0 i.holds i.grows i.plan c.in-Some.ensures.some c.in_err-recode.ensures.waits
-    (refused-taken r c.take_unit.new.self u c.deref.result.now c.in_err-recode.field-0.0 c.deref.ensures.value c.in_err-recode.ensures.err))
+    (refused-taken r c.take_unit.new.self c.self-1.given.0 u c.deref.result.now c.in_err-recode.field-0.0 c.deref.ensures.value c.in_err-recode.ensures.err))

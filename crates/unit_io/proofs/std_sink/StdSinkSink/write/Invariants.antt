@@ -1,6 +1,8 @@
 use Rattle.std.proofs.Common.{◌≡◌}
+use Rattle.std.specs.Io.KnownBytes.{Keeps}
 use Rattle.unit_io.proofs.std_sink.StdSinkSink.write.Given as goal
 
--- nothing was counted yet
+-- nothing was counted or moved yet
 abbrev pub invariant-loop : goal.invariant-loop
-invariant-loop g l = l.self.faults ≡ l.fn.self.faults
+invariant-loop g l =
+    (l.self.faults ≡ l.fn.self.faults) × Keeps (g.W.Write.contents l.fn.self.writer) (g.W.Write.contents l.self.writer)

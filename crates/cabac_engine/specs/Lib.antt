@@ -1,0 +1,4 @@
+pub mod Bins
+pub mod Decoding
+pub mod Encoding
+pub mod LowBits

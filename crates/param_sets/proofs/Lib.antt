@@ -1,0 +1,10 @@
+pub mod Loops
+pub mod Spelled
+pub mod Trailing
+pub mod TrailingWritten
+pub mod ScalingTexts
+pub mod PpsTexts
+pub mod SpsTexts
+pub mod SpsFound
+pub mod SetLaws
+pub mod SetMapLaws

@@ -1,0 +1,5 @@
+use Rattle.param_sets.proofs.SpsTexts.{read_again}
+use Rattle.param_sets.proofs.laws.sps_is_read_from_its_text.Goals as goal
+
+pub returns : goal.returns
+returns c = read_again

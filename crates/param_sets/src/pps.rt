@@ -1,0 +1,30 @@
+use crate::elements::Elements;
+
+/// A picture parameter set (7.3.2.2), one field for each syntax element. Elements that are absent are 0, false or have
+/// no items.
+#[derive(Debug, Drop)]
+pub struct Pps {
+    /// The number of the set, 0 to 255.
+    pub pic_parameter_set_id: u32,
+    pub seq_parameter_set_id: u32,
+    pub entropy_coding_mode_flag: bool,
+    pub bottom_field_pic_order_in_frame_present_flag: bool,
+    pub num_slice_groups_minus1: u32,
+    pub num_ref_idx_l0_default_active_minus1: u32,
+    pub num_ref_idx_l1_default_active_minus1: u32,
+    pub weighted_pred_flag: bool,
+    pub weighted_bipred_idc: u32,
+    pub pic_init_qp_minus26: i32,
+    pub pic_init_qs_minus26: i32,
+    pub chroma_qp_index_offset: i32,
+    pub deblocking_filter_control_present_flag: bool,
+    pub constrained_intra_pred_flag: bool,
+    pub redundant_pic_cnt_present_flag: bool,
+    /// Whether the elements below stand.
+    pub tail: bool,
+    pub transform_8x8_mode_flag: bool,
+    pub pic_scaling_matrix_present_flag: bool,
+    /// The delta codes of each scaling list; a list that is not present has none.
+    pub scaling_lists: Elements<Elements<i32>>,
+    pub second_chroma_qp_index_offset: i32,
+}
