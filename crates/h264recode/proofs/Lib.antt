@@ -8,4 +8,5 @@ pub mod Feeding
 pub mod Reading
 pub mod Flush
 pub mod Told
+pub mod Due
 pub mod WholeLine

@@ -48,6 +48,9 @@ by_outcome none syntax bits ends (Found value rest) e =
 by_outcome none syntax bits ends (Refused cause) e = inr (why_of cause, inr (cause, refl, spelled syntax bits (Refused cause) e (λ k. cc)))
 by_outcome none syntax bits ends NoText e = inr (none, inl (refl, nothing_spelled syntax bits e))
 
+no_rest : {A : Type 0} (value other : A) (rest after : List Bool) → found value rest ≡ Found other after → after ≡ [] → rest ≡ []
+no_rest value other rest after e none = (same_found value other rest after (found value rest) refl e).1 ∙ none
+
 -- nothing stands behind a set
 sps_ends : (bits : List Bool) (sps : Sps) (rest : List Bool) → Spells seq_parameter_set bits (Found sps rest) → rest ≡ []
 unfolding seq_parameter_set
@@ -55,14 +58,14 @@ sps_ends bits sps rest h =
     let f = found_then sps_fields (λ s. unread_bits >>= λ others. refused_where (is_above_limits s) AboveLimit >>= λ within. Done (record s { rest = others })) bits sps rest h in
     let g = found_then unread_bits (λ others. refused_where (is_above_limits f.0) AboveLimit >>= λ within. Done (record f.0 { rest = others })) f.1 sps rest f.3 in
     let k = found_allowed (is_above_limits f.0) AboveLimit (λ within. Done (record f.0 { rest = g.0 })) g.1 sps rest g.3 in
-    (same_found sps (record f.0 { rest = g.0 }) rest g.1 (found sps rest) refl k.1).1 ∙ (unread_spelled f.1 g.0 g.1 g.2).1
+    no_rest sps (record f.0 { rest = g.0 }) rest g.1 k.1 (unread_spelled f.1 g.0 g.1 g.2).1
 
 pps_ends : (bits : List Bool) (pps : Pps) (rest : List Bool) → Spells pic_parameter_set bits (Found pps rest) → rest ≡ []
 unfolding pic_parameter_set
 pps_ends bits pps rest h =
     let f = found_then pps_fields (λ p. rbsp_trailing_bits >>= λ ends. Done p) bits pps rest h in
     let g = found_then rbsp_trailing_bits (λ ends. Done f.0) f.1 pps rest f.3 in
-    (same_found pps f.0 rest g.1 (found pps rest) refl g.3).1 ∙ (trailing_spelled f.1 g.0 g.1 g.2).3
+    no_rest pps f.0 rest g.1 g.3 (trailing_spelled f.1 g.0 g.1 g.2).3
 
 -- ## One reason
 

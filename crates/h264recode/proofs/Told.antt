@@ -190,7 +190,7 @@ answer_at (OutsideAt unit why) = Outside unit why
 answer_at NoMemory = Memory
 
 -- the status of a run is the one that is due, or a fault
-due-run : (layer : Layer) (bound : ℕ) (b : List ℕ) (left' held held' : Option (List ℕ)) (status due : Status) → Leaves (plan_to layer) bound b left' held held' status → IsDue (Some layer) bound b due → (status ≡ due) ⊎ IsFault status
+pub due-run : (layer : Layer) (bound : ℕ) (b : List ℕ) (left' held held' : Option (List ℕ)) (status due : Status) → Leaves (plan_to layer) bound b left' held held' status → IsDue (Some layer) bound b due → (status ≡ due) ⊎ IsFault status
 due-run layer bound b left' held held' ReadFault due h d = inr (inr (inl refl))
 due-run layer bound b left' held held' WriteFault due h d = inr (inr (inr (inl refl)))
 due-run layer bound b left' held held' Memory due h d = inr (inl refl)

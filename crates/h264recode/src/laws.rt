@@ -2,9 +2,12 @@
 ghost use Rattle.std.specs.Prelude.{◌≡◌, ◌++◌, List, ℕ, Option, Some, None};
 ghost use Rattle.h264_types.specs.declared.fault.Why.{Why};
 ghost use Rattle.h264_types.specs.declared.fault.Stopped.{Stopped};
+ghost use Rattle.h264_types.specs.declared.layer.Layer.{Layer};
 ghost use Rattle.h264_types.specs.Units.{seen, seen_whole};
 ghost use Rattle.h264recode.specs.declared.plan.Plan.{Plan};
+ghost use Rattle.h264recode.specs.declared.status.Status.{Status};
 ghost use Rattle.h264recode.specs.Items.{Item, IsItem};
+ghost use Rattle.h264recode.specs.Run.{IsDue};
 ghost use Rattle.h264recode.specs.Verdict.{Judges, Recodes, Refuses};
 ghost use Rattle.h264recode.specs.Written.{output};
 
@@ -24,6 +27,12 @@ pub fn one_verdict()
 pub fn all_is_judged()
     ensures whole { (o : Plan) (b : List ℕ) → (items : List Item) × (verdict : Option Stopped) × Recodes o (seen_whole b) items verdict }
     ensures so_far { (o : Plan) (b : List ℕ) → (items : List Item) × (verdict : Option Stopped) × Recodes o (seen b) items verdict }
+{}
+
+/// For all words and each input one answer is due.
+pub fn one_answer_is_due()
+    ensures some { (layer : Option Layer) (bound : ℕ) (b : List ℕ) → (due : Status) × IsDue layer bound b due }
+    ensures once { (layer : Option Layer) (bound : ℕ) (b : List ℕ) (first second : Status) → IsDue layer bound b first → IsDue layer bound b second → first ≡ second }
 {}
 
 /// While bytes come in, what is written for the units before the verdict stays, and so does a verdict.

@@ -1,7 +1,7 @@
 // A sink in memory that never fails.
-ghost use Rattle.std.specs.Prelude.{◌≡◌, ◌<◌, ◌≤◌, [], length, Some, IfOk};
+ghost use Rattle.std.specs.Prelude.{◌≡◌, ◌<◌, ◌≤◌, [], length, Some, IfOk, IsOk};
 ghost use Rattle.std.specs.Io.{WritesAtMost};
-ghost use Rattle.std.specs.Io.KnownBytes.{WriteAppends};
+ghost use Rattle.std.specs.Io.KnownBytes.{Keeps, WriteAppends};
 
 use crate::{Sink, SinkFault};
 use std::alloc::Global;
@@ -61,7 +61,12 @@ impl Sink for CleanSink {
         }
     }
 
-    fn flush(&mut self) -> Result<(), SinkFault> {
+    fn flush(&mut self) -> Result<(), SinkFault>
+        ensures bytes { Keeps (⟦<CleanSink as Sink>⟧.held self.old) (⟦<CleanSink as Sink>⟧.held self.new) }
+        ensures cause { HasSinkCause 0 0 result }
+        ensures ok { IsOk result }
+        ensures keeps { clean_sink_step self.new ≡ clean_sink_step self.old }
+    {
         Ok(())
     }
 }

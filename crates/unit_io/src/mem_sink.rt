@@ -1,10 +1,10 @@
 // A sink in memory some of whose writes fail.
-ghost use Rattle.std.specs.Prelude.{◌≡◌, ◌<◌, ◌≤◌, ◌↔◌, [], length, IfOk, IsErrOf, Some};
+ghost use Rattle.std.specs.Prelude.{◌≡◌, ◌+◌, ◌-◌, ◌^◌, ◌<◌, ◌≤◌, ◌↔◌, [], min, length, IfOk, IsOk, IsErrOf, Some};
 ghost use Rattle.std.specs.Io.{WritesAtMost};
-ghost use Rattle.std.specs.Io.KnownBytes.{WriteAppends};
-ghost use Rattle.unit_io.specs.Failures.{failures};
+ghost use Rattle.std.specs.Io.KnownBytes.{Keeps, WriteAppends};
+ghost use Rattle.unit_io.specs.Failures.{failures, Fails};
 ghost use Rattle.unit_io.specs.Faults.{HasSinkCause, Rose};
-ghost use Rattle.unit_io.specs.Steps.{mem_sink_step};
+ghost use Rattle.unit_io.specs.Steps.{mem_sink_step, mem_sink_calls, mem_sink_failing};
 
 use crate::failing::Failing;
 use crate::{CleanSink, Sink, SinkFault};
@@ -25,6 +25,8 @@ impl MemSink {
         ensures held { ⟦<MemSink as Sink>⟧.held result ≡ Some [] }
         ensures faults { ⟦<MemSink as Sink>⟧.faults result ≡ failures failing.items 0 }
         ensures step { mem_sink_step result ≡ step }
+        ensures calls { mem_sink_calls result ≡ 0 }
+        ensures list { mem_sink_failing result ≡ failing.items }
     {
         MemSink {
             sink: CleanSink::new(alloc, step),
@@ -46,7 +48,7 @@ impl MemSink {
 impl Sink for MemSink {
     ghost held = { λ s. ⟦<CleanSink as Sink>⟧.held s.sink };
 
-    ghost faults = { λ s. failures s.failing.numbers.items s.failing.calls };
+    ghost faults = { λ s. failures (mem_sink_failing s) (mem_sink_calls s) };
 
     fn write(&mut self, piece: &[u8]) -> Result<usize, SinkFault>
         ensures bound { WritesAtMost result piece.now }
@@ -60,6 +62,12 @@ impl Sink for MemSink {
             (⟦<MemSink as Sink>⟧.faults self.old < ⟦<MemSink as Sink>⟧.faults self.new) }
         ensures step { IfOk result (λ n. n ≤ mem_sink_step self.old) }
         ensures keeps { mem_sink_step self.new ≡ mem_sink_step self.old }
+
+        // Each write is counted, and fails where its number stands in the list.
+        ensures calls { mem_sink_calls self.new ≡ min (mem_sink_calls self.old + 1) (2 ^ 64 - 1) }
+        ensures list { mem_sink_failing self.new ≡ mem_sink_failing self.old }
+        ensures exact { IsErrOf result SinkFault.Failed ↔
+            Fails (mem_sink_failing self.old) (mem_sink_calls self.old) }
     {
         if self.failing.next() {
             return Err(SinkFault::Failed);
@@ -67,7 +75,17 @@ impl Sink for MemSink {
         self.sink.write(piece)
     }
 
-    fn flush(&mut self) -> Result<(), SinkFault> {
+    fn flush(&mut self) -> Result<(), SinkFault>
+        ensures bytes { Keeps (⟦<MemSink as Sink>⟧.held self.old) (⟦<MemSink as Sink>⟧.held self.new) }
+        ensures cause { HasSinkCause (⟦<MemSink as Sink>⟧.faults self.old)
+            (⟦<MemSink as Sink>⟧.faults self.new) result }
+        ensures ok { IsOk result }
+        ensures keeps { mem_sink_step self.new ≡ mem_sink_step self.old }
+
+        // It isn't counted.
+        ensures calls { mem_sink_calls self.new ≡ mem_sink_calls self.old }
+        ensures list { mem_sink_failing self.new ≡ mem_sink_failing self.old }
+    {
         self.sink.flush()
     }
 }

@@ -1,10 +1,10 @@
 // A source in memory some of whose calls fail.
-ghost use Rattle.std.specs.Prelude.{◌≡◌, ◌<◌, ◌≤◌, ◌↔◌, IfOk, IsErr, Some};
+ghost use Rattle.std.specs.Prelude.{◌≡◌, ◌+◌, ◌-◌, ◌^◌, ◌<◌, ◌≤◌, ◌↔◌, min, IfOk, IsErr, Some};
 ghost use Rattle.std.specs.Io.{ReadsAtMost};
 ghost use Rattle.std.specs.Io.KnownBytes.{ReadConsumes};
-ghost use Rattle.unit_io.specs.Failures.{failures};
+ghost use Rattle.unit_io.specs.Failures.{failures, Fails};
 ghost use Rattle.unit_io.specs.Faults.{HasCause};
-ghost use Rattle.unit_io.specs.Steps.{mem_source_step};
+ghost use Rattle.unit_io.specs.Steps.{mem_source_step, mem_source_calls, mem_source_failing};
 
 use crate::failing::Failing;
 use crate::{CleanSource, Failed, Source};
@@ -24,6 +24,8 @@ impl MemSource {
         ensures left { ⟦<MemSource as Source>⟧.left result ≡ Some bytes.items }
         ensures faults { ⟦<MemSource as Source>⟧.faults result ≡ failures failing.items 0 }
         ensures step { mem_source_step result ≡ step }
+        ensures calls { mem_source_calls result ≡ 0 }
+        ensures list { mem_source_failing result ≡ failing.items }
     {
         MemSource {
             source: CleanSource::new(bytes, step),
@@ -38,7 +40,7 @@ impl MemSource {
 impl Source for MemSource {
     ghost left = { λ s. ⟦<CleanSource as Source>⟧.left s.source };
 
-    ghost faults = { λ s. failures s.failing.numbers.items s.failing.calls };
+    ghost faults = { λ s. failures (mem_source_failing s) (mem_source_calls s) };
 
     fn read(&mut self, buf: &mut [u8]) -> Result<usize, Failed>
         ensures bound { ReadsAtMost result buf.new }
@@ -50,6 +52,11 @@ impl Source for MemSource {
             (⟦<MemSource as Source>⟧.faults self.old < ⟦<MemSource as Source>⟧.faults self.new) }
         ensures step { IfOk result (λ n. n ≤ mem_source_step self.old) }
         ensures keeps { mem_source_step self.new ≡ mem_source_step self.old }
+
+        // Each call is counted, and fails where its number stands in the list.
+        ensures calls { mem_source_calls self.new ≡ min (mem_source_calls self.old + 1) (2 ^ 64 - 1) }
+        ensures list { mem_source_failing self.new ≡ mem_source_failing self.old }
+        ensures exact { IsErr result ↔ Fails (mem_source_failing self.old) (mem_source_calls self.old) }
     {
         if self.failing.next() {
             return Err(Failed);
