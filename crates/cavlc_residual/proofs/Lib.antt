@@ -1,0 +1,9 @@
+pub mod Pieces
+pub mod WindowLemmas
+pub mod LevelLemmas
+pub mod CoefficientLemmas
+pub mod RunLemmas
+pub mod PartLemmas
+pub mod ScanLemmas
+pub mod BlockLemmas
+pub mod WriteLemmas

@@ -1,0 +1,224 @@
+use Rattle.std.proofs.Common.{◌≡◌, ℕ, zero, suc, ◌+◌, ◌-◌, ◌*◌, ◌<◌, ◌≤◌, ℤ, pos, negsuc, Bool, true, false, cond, List, [], ◌∷◌, ◌++◌, length, get_or, take, drop, map, sum, filter, reverse, refl, sym, ap, ◌∙◌, subst, arith, ◌⊎◌, inl, inr, w32, to_z, of_z, Result, IsErr}
+use Rattle.std.specs.List.{AllByRecursion}
+use Rattle.std.proofs.lemmas.Int.{ints, to_z-of_z}
+use Rattle.std.proofs.lemmas.List.{reverse-append, drop_more, take_more, length-drop, length-reverse, take-append-drop}
+use Rattle.std.proofs.lemmas.List.Sums.{sum_by-cons}
+use Rattle.std.proofs.lemmas.Bool.{cases_Bool}
+use Rattle.cavlc_residual.proofs.Pieces.{AppendsFront, Appends-then, Appends-stop, Wrote-front}
+use Rattle.bit_texts.specs.Texts.{Appended, Appends, Wrote}
+use Rattle.bit_texts.proofs.Writing.{Appended-same, Wrote-next, Wrote-end}
+use Rattle.code_tables.specs.Codes.{Code, word_at}
+use Rattle.code_tables.specs.CoeffToken.{coeff_token_list}
+use Rattle.code_tables.specs.RunBefore.{run_before_list}
+use Rattle.code_tables.specs.TotalZeros.{total_zeros_list}
+use Rattle.cavlc_residual.specs.Coefficients.{magnitude, is_minus, next_suffix_length, coefficient_text, coefficients_text, AreCoefficients}
+use Rattle.cavlc_residual.specs.Block.{is_nonzero, leading_zeros, runs_of, runs_text, trailing_ones, first_suffix_length, first_extra, levels_text, parts_text, block_text, is_above, levels_above, is_beyond}
+use Rattle.cavlc_residual.specs.Parts.{AreLevels}
+use Rattle.cavlc_residual.proofs.ScanLemmas.{zero_is, AllNonzero, AllNonzero-filter, length_parts}
+use Rattle.cavlc_residual.proofs.BlockLemmas.{AllSmall, all_filter, all_reverse, all_parts, levels_are}
+
+-- ---- numbers of 32 bits
+
+pub same_i32 : (l : ℤ) → magnitude l ≤ 65535 → to_z w32 (of_z w32 l) ≡ l
+same_i32 (pos n) h = to_z-of_z w32 (pos n) (omega (arith, ints))
+same_i32 (negsuc n) h = to_z-of_z w32 (negsuc n) (omega (arith, ints))
+
+pub all_at : (P : ℤ → Type 0) (xs : List ℤ) (i : ℕ) → AllByRecursion P xs → i < length xs → P (get_or xs i (pos 0))
+all_at P [] i all h = absurd (omega arith)
+all_at P (x ∷ xs) zero all h = all.0
+all_at P (x ∷ xs) (suc i) all h = all_at P xs i all.1 (omega arith)
+
+-- ---- the levels behind the trailing ones
+
+coefficients-head : (s e i : ℕ) (ls : List ℤ) → i < length ls → AreCoefficients 20 s e (drop i ls) → AreCoefficients 20 s e (get_or ls i (pos 0) ∷ drop (i + 1) ls)
+coefficients-head s e i ls h are = let P : List ℤ → Type 0 = λ t. AreCoefficients 20 s e t in subst P (drop_more ls i (pos 0) h) are
+
+pub element_is : (s e i : ℕ) (ls : List ℤ) → i < length ls → AreCoefficients 20 s e (drop i ls) → to_z w32 (of_z w32 (get_or ls i (pos 0))) ≡ get_or ls i (pos 0)
+element_is s e i ls h are = same_i32 (get_or ls i (pos 0)) (coefficients-head s e i ls h are).0.small
+
+pub coefficients-turn : (s e i t : ℕ) (ls : List ℤ) (l : ℤ) (old mid new text : List Bool) → i < length ls → l ≡ get_or ls i (pos 0) → t ≡ next_suffix_length s l → AreCoefficients 20 s e (drop i ls) → Wrote old mid text (coefficients_text s e (drop i ls)) → Appended mid new (coefficient_text s e l) → AreCoefficients 20 t 0 (drop (i + 1) ls) × Wrote old new text (coefficients_text t 0 (drop (i + 1) ls))
+coefficients-turn s e i t ls l old mid new text h level next are wrote step =
+    let head = coefficients-head s e i ls h are in
+    let n : t ≡ next_suffix_length s (get_or ls i (pos 0)) = next ∙ ap (next_suffix_length s) level in
+    let R : ℤ → Type 0 = λ m. Appended mid new (coefficient_text s e m) in
+    let P : ℕ → Type 0 = λ k. AreCoefficients 20 k 0 (drop (i + 1) ls) in
+    let Q : ℕ → Type 0 = λ k. Wrote old new text (coefficients_text k 0 (drop (i + 1) ls)) in (
+      subst P (sym n) head.1,
+      subst Q (sym n) (Wrote-next old mid new text (coefficient_text s e (get_or ls i (pos 0))) _ _ (ap (coefficients_text s e) (drop_more ls i (pos 0) h)) wrote (subst R level step)),
+    )
+
+pub coefficients-stop : (s e i : ℕ) (ls : List ℤ) (l : ℤ) (old mid new text : List Bool) → i < length ls → l ≡ get_or ls i (pos 0) → Wrote old mid text (coefficients_text s e (drop i ls)) → AppendsFront mid new (coefficient_text s e l) → AppendsFront old new text
+coefficients-stop s e i ls l old mid new text h level wrote front =
+    let P : ℤ → Type 0 = λ m. AppendsFront mid new (coefficient_text s e m) in
+    Wrote-front old mid new text (coefficient_text s e (get_or ls i (pos 0))) _ _ (ap (coefficients_text s e) (drop_more ls i (pos 0) h)) wrote (subst P level front)
+
+-- ---- the runs
+
+runs-split : (left i : ℕ) (rs : List ℕ) → i + 1 < length rs → runs_text left (drop i rs) ≡ word_at (run_before_list left) (get_or rs i 0) ++ runs_text (left - get_or rs i 0) (drop (i + 1) rs)
+runs-split left i rs h =
+    let first = drop_more rs i 0 (omega arith) in
+    let second = drop_more rs (i + 1) 0 h in
+    ap (runs_text left) (first ∙ ap (λ t. get_or rs i 0 ∷ t) second) ∙ ap (λ t. word_at (run_before_list left) (get_or rs i 0) ++ runs_text (left - get_or rs i 0) t) (sym second)
+
+pub runs-turn : (left i : ℕ) (rs : List ℕ) (old mid new text : List Bool) → i + 1 < length rs → sum (drop i rs) ≤ left → Wrote old mid text (runs_text left (drop i rs)) → Appended mid new (word_at (run_before_list left) (get_or rs i 0)) → (sum (drop (i + 1) rs) ≤ left - get_or rs i 0) × Wrote old new text (runs_text (left - get_or rs i 0) (drop (i + 1) rs))
+runs-turn left i rs old mid new text h fits wrote step =
+    let whole = ap sum (drop_more rs i 0 (omega arith)) in
+    let parts = sum_by-cons (λ x. x) (get_or rs i 0) (drop (i + 1) rs) in
+    (omega arith, Wrote-next old mid new text _ _ _ (runs-split left i rs h) wrote step)
+
+pub run_fits : (left i : ℕ) (rs : List ℕ) → i < length rs → sum (drop i rs) ≤ left → get_or rs i 0 ≤ left
+run_fits left i rs h fits =
+    let whole = ap sum (drop_more rs i 0 h) in
+    let parts = sum_by-cons (λ x. x) (get_or rs i 0) (drop (i + 1) rs) in
+    omega arith
+
+pub runs-stop : (left i : ℕ) (rs : List ℕ) (old mid new text : List Bool) → i + 1 < length rs → Wrote old mid text (runs_text left (drop i rs)) → AppendsFront mid new (word_at (run_before_list left) (get_or rs i 0)) → AppendsFront old new text
+runs-stop left i rs old mid new text h wrote front = Wrote-front old mid new text _ _ _ (runs-split left i rs h) wrote front
+
+pub runs-end : (left i : ℕ) (rs : List ℕ) (old new text : List Bool) → length rs ≤ i + 1 → Wrote old new text (runs_text left (drop i rs)) → Appended old new text
+runs-end left i rs old new text h wrote = Wrote-end old new text (runs_text left (drop i rs)) (none (drop i rs) (omega (arith, length-drop i rs))) wrote where
+  none : (xs : List ℕ) → length xs ≤ 1 → runs_text left xs ≡ []
+  none [] h = refl
+  none (x ∷ []) h = refl
+  none (x ∷ y ∷ xs) h = absurd (omega arith)
+
+-- ---- separating the levels from the zeros
+
+pub down-next : (xs : List ℤ) (i : ℕ) (x : ℤ) → i < length xs → x ≡ get_or xs i (pos 0) → reverse (take (i + 1) xs) ≡ x ∷ reverse (take i xs)
+down-next xs i x h e =
+    ap reverse (take_more xs i (pos 0) h) ∙ (reverse-append (take i xs) (get_or xs i (pos 0) ∷ []) ∙ ap (λ y. y ∷ reverse (take i xs)) (sym e))
+
+pub reverse_push : {A : Type 0} (xs ys : List A) (x y : A) → ys ≡ xs ++ x ∷ [] → x ≡ y → reverse ys ≡ y ∷ reverse xs
+reverse_push xs ys x y e same = ap reverse e ∙ (reverse-append xs (x ∷ []) ∙ ap (λ z. z ∷ reverse xs) same)
+
+pub record Separates (ds : List ℤ) (ls : List ℤ) (rs : List ℕ) (z : ℕ) : Type 0 where
+  pub levels : ls ≡ filter is_nonzero ds
+  pub runs : rs ≡ runs_of ds
+  pub behind : z ≡ leading_zeros ds
+
+pub separates-zero : (ds es ls : List ℤ) (rs : List ℕ) (z : ℕ) (x : ℤ) → magnitude x ≤ 65535 → of_z w32 x ≡ 0 → es ≡ x ∷ ds → Separates ds ls rs z → Separates es ls rs (z + 1)
+separates-zero ds es ls rs z x small e next h =
+    let none : x ≡ pos 0 = sym (same_i32 x small) ∙ ap (to_z w32) e in
+    let at : es ≡ pos 0 ∷ ds = next ∙ ap (λ y. y ∷ ds) none in
+    let P : List ℤ → Type 0 = λ t. Separates t ls rs (z + 1) in
+    subst P (sym at) record { levels = h.levels; runs = h.runs; behind = ap (λ n. n + 1) h.behind }
+
+nonzero_i32 : (x : ℤ) → (of_z w32 x ≡ 0 → ⊥) → (is_nonzero x ≡ true) ⊎ (is_nonzero x ≡ false) → is_nonzero x ≡ true
+nonzero_i32 x h (inl e) = e
+nonzero_i32 x h (inr e) = absurd (h (ap (of_z w32) (zero_is x e)))
+
+pub separates-level : (ds es ls : List ℤ) (rs : List ℕ) (z : ℕ) (x : ℤ) → (of_z w32 x ≡ 0 → ⊥) → es ≡ x ∷ ds → Separates ds ls rs z → Separates es (x ∷ ls) (z ∷ rs) 0
+separates-level ds es ls rs z x ne next h =
+    let is = nonzero_i32 x ne (cases_Bool (is_nonzero x)) in
+    let P : List ℤ → Type 0 = λ t. Separates t (x ∷ ls) (z ∷ rs) 0 in
+    subst P (sym next) record {
+      levels = ap (λ t. x ∷ t) h.levels ∙ ap (λ b. cond b (x ∷ filter is_nonzero ds) (filter is_nonzero ds)) (sym is);
+      runs = ap (λ n. n ∷ rs) h.behind ∙ (ap (λ t. leading_zeros ds ∷ t) h.runs ∙ ap (λ b. cond b (leading_zeros ds ∷ runs_of ds) (runs_of ds)) (sym is));
+      behind = ap (λ b. cond b 0 (leading_zeros ds + 1)) (sym is);
+    }
+
+pub Separates-same : (ds ls ms : List ℤ) (rs ss : List ℕ) (z y : ℕ) → Separates ds ls rs z → ms ≡ ls → ss ≡ rs → y ≡ z → Separates ds ms ss y
+Separates-same ds ls ms rs ss z y h a b c = record { levels = a ∙ h.levels; runs = b ∙ h.runs; behind = c ∙ h.behind }
+
+pub small_element : (xs ys : List ℤ) (i : ℕ) → xs ≡ ys → AllByRecursion (λ l. magnitude l ≤ 65535) ys → i < length xs → magnitude (get_or xs i (pos 0)) ≤ 65535
+small_element xs ys i e all h = let P : List ℤ → Type 0 = λ t. AllByRecursion (λ l. magnitude l ≤ 65535) t in all_at (λ l. magnitude l ≤ 65535) xs i (subst P (sym e) all) h
+
+-- ---- the text of the levels
+
+pub levels_stopped : {T E : Type 0} (ls signs : List ℤ) (o : ℕ) (old new : List Bool) (r : Result T E) → o ≡ trailing_ones ls → signs ≡ take o ls → AppendsFront old new (map is_minus signs) → IsErr r → Appends old new (levels_text ls) r
+levels_stopped ls signs o old new r ones front_is front err =
+    let P : List ℤ → Type 0 = λ t. AppendsFront old new (map is_minus t) in
+    Appends-stop old new (map is_minus (take (trailing_ones ls) ls)) _ r (subst P (front_is ∙ ap (λ n. take n ls) ones) front) err
+
+pub levels_written : {T E : Type 0} (ls signs others : List ℤ) (o s e : ℕ) (old mid new : List Bool) (r : Result T E) → o ≡ trailing_ones ls → signs ≡ take o ls → others ≡ drop o ls → s ≡ first_suffix_length (length ls) o → e ≡ first_extra o → Appended old mid (map is_minus signs) → Appends mid new (coefficients_text s e others) r → Appends old new (levels_text ls) r
+levels_written ls signs others o s e old mid new r ones front_is back_is length_is extra_is first second =
+    let n = trailing_ones ls in
+    let front : signs ≡ take n ls = front_is ∙ ap (λ k. take k ls) ones in
+    let text : coefficients_text s e others ≡ coefficients_text (first_suffix_length (length ls) n) (first_extra n) (drop n ls) =
+    ap (λ k. coefficients_text k e others) length_is ∙ (ap (λ k. coefficients_text (first_suffix_length (length ls) o) k others) extra_is
+    ∙ (ap (coefficients_text (first_suffix_length (length ls) o) (first_extra o)) back_is
+    ∙ ap (λ k. coefficients_text (first_suffix_length (length ls) k) (first_extra k) (drop k ls)) ones)) in
+    let P : List Bool → Type 0 = λ t. Appends mid new t r in
+    Appends-then old mid new (map is_minus (take n ls)) _ r (Appended-same old mid (map is_minus signs) (map is_minus (take n ls)) (ap (map is_minus) front) first) (subst P text second)
+
+-- ---- the text of a block, part by part
+
+pub token_word : (m nc : ℤ) (codes : List Code) (t o place : ℕ) (ls : List ℤ) → codes ≡ coeff_token_list m → m ≡ nc → t ≡ length ls → o ≡ trailing_ones ls → place ≡ 4 * t + o → word_at codes place ≡ word_at (coeff_token_list nc) (4 * length ls + trailing_ones ls)
+token_word m nc codes t o place ls e n total ones at =
+    ap (λ cs. word_at cs place) (e ∙ ap coeff_token_list n) ∙ ap (word_at (coeff_token_list nc)) (omega arith)
+
+pub zeros_word : (max t z : ℕ) (codes : List Code) (ls : List ℤ) (rs : List ℕ) → codes ≡ total_zeros_list max t → t ≡ length ls → z ≡ sum rs → word_at codes z ≡ word_at (total_zeros_list max (length ls)) (sum rs)
+zeros_word max t z codes ls rs e total zero_count =
+    ap (λ cs. word_at cs z) (e ∙ ap (total_zeros_list max) total) ∙ ap (word_at (total_zeros_list max (length ls))) zero_count
+
+pub parts_end_at_token : {T E : Type 0} (nc : ℤ) (max : ℕ) (ls : List ℤ) (rs : List ℕ) (text old new : List Bool) (r : Result T E) → text ≡ word_at (coeff_token_list nc) (4 * length ls + trailing_ones ls) → AppendsFront old new text → IsErr r → Appends old new (parts_text nc max ls rs) r
+parts_end_at_token nc max ls rs text old new r e front err =
+    let P : List Bool → Type 0 = λ t. AppendsFront old new t in Appends-stop old new _ _ r (subst P e front) err
+
+pub parts_end_at_levels : {T E : Type 0} (nc : ℤ) (max : ℕ) (ls : List ℤ) (rs : List ℕ) (text old mid new : List Bool) (r : Result T E) → text ≡ word_at (coeff_token_list nc) (4 * length ls + trailing_ones ls) → Appended old mid text → AppendsFront mid new (levels_text ls) → IsErr r → Appends old new (parts_text nc max ls rs) r
+parts_end_at_levels nc max ls rs text old mid new r e first front err =
+    Appends-then old mid new _ _ r (Appended-same old mid text _ e first) (Appends-stop mid new (levels_text ls) _ r front err)
+
+pub parts_end_at_zeros : {T E : Type 0} (nc : ℤ) (max : ℕ) (ls : List ℤ) (rs : List ℕ) (text behind old mid next new : List Bool) (r : Result T E) → text ≡ word_at (coeff_token_list nc) (4 * length ls + trailing_ones ls) → Appended old mid text → Appended mid next (levels_text ls) → behind ≡ word_at (total_zeros_list max (length ls)) (sum rs) → AppendsFront next new behind → IsErr r → Appends old new (parts_text nc max ls rs) r
+parts_end_at_zeros nc max ls rs text behind old mid next new r e first second d front err =
+    let P : List Bool → Type 0 = λ t. AppendsFront next new t in
+    Appends-then old mid new _ _ r (Appended-same old mid text _ e first) (Appends-then mid next new (levels_text ls) _ r second (Appends-stop next new _ _ r (subst P d front) err))
+
+pub parts_written : {T E : Type 0} (nc : ℤ) (max z : ℕ) (ls : List ℤ) (rs : List ℕ) (text behind old mid next last new : List Bool) (r : Result T E) → text ≡ word_at (coeff_token_list nc) (4 * length ls + trailing_ones ls) → Appended old mid text → Appended mid next (levels_text ls) → behind ≡ word_at (total_zeros_list max (length ls)) (sum rs) → Appended next last behind → z ≡ sum rs → Appends last new (runs_text z rs) r → Appends old new (parts_text nc max ls rs) r
+parts_written nc max z ls rs text behind old mid next last new r e first second d third total final =
+    let P : ℕ → Type 0 = λ n. Appends last new (runs_text n rs) r in
+    Appends-then old mid new _ _ r (Appended-same old mid text _ e first) (Appends-then mid next new (levels_text ls) _ r second
+    (Appends-then next last new _ _ r (Appended-same next last behind _ d third) (subst P total final)))
+
+-- the two parts of a slice that is split behind the trailing ones
+pub split_front : (n o : ℕ) (xs ls : List ℤ) → n ≡ o → xs ≡ ls → take n xs ≡ take o ls
+split_front n o xs ls e f = ap (λ k. take k xs) e ∙ ap (take o) f
+
+pub split_back : (n o : ℕ) (xs ls : List ℤ) → n ≡ o → xs ≡ ls → drop n xs ≡ drop o ls
+split_back n o xs ls e f = ap (λ k. drop k xs) e ∙ ap (drop o) f
+
+-- ---- a block that is to be written
+
+coefficients_weaker : (bound s e : ℕ) (ls : List ℤ) → bound ≤ 20 → AreCoefficients bound s e ls → AreCoefficients 20 s e ls
+coefficients_weaker bound s e [] h are = tt
+coefficients_weaker bound s e (l ∷ ls) h are = (
+  record { nonzero = are.0.nonzero; small = are.0.small; above = are.0.above; within = omega (arith, are.0.within) },
+  coefficients_weaker bound (next_suffix_length s l) 0 ls h are.1,
+)
+
+pub others_known : (levels cs others : List ℤ) (o : ℕ) → cs ≡ filter is_nonzero (reverse levels) → AllSmall levels → others ≡ drop o cs → AllNonzero others × AllSmall others
+others_known levels cs others o e small back =
+    let P : List ℤ → Type 0 = λ t. AllNonzero t in
+    let Q : List ℤ → Type 0 = λ t. AllSmall t in
+    let cut = take-append-drop o cs in
+    let nonzero = subst P (sym e) (AllNonzero-filter (reverse levels)) in
+    let in_range = subst Q (sym e) (all_filter _ is_nonzero (reverse levels) (all_reverse _ levels small)) in (
+      subst P (sym back) (all_parts _ (take o cs) (drop o cs) (subst P (sym cut) nonzero)).1,
+      subst Q (sym back) (all_parts _ (take o cs) (drop o cs) (subst Q (sym cut) in_range)).1,
+    )
+
+pub above_is : (bound : ℕ) (levels cs others : List ℤ) (o t s e : ℕ) (r : Bool) → cs ≡ filter is_nonzero (reverse levels) → o ≡ trailing_ones cs → t ≡ length cs → others ≡ drop o cs → s ≡ first_suffix_length t o → e ≡ first_extra o → r ≡ is_above bound s e others → is_beyond bound levels ≡ r
+above_is bound levels cs others o t s e r found ones total back length_is extra_is answer =
+    ap (levels_above bound) (sym found)
+    ∙ (ap (λ k. is_above bound (first_suffix_length (length cs) k) (first_extra k) (drop k cs)) (sym ones)
+    ∙ (ap (λ n. is_above bound (first_suffix_length n o) (first_extra o) (drop o cs)) (sym total)
+    ∙ (ap (λ n. is_above bound n (first_extra o) (drop o cs)) (sym length_is)
+    ∙ (ap (λ n. is_above bound s n (drop o cs)) (sym extra_is)
+    ∙ (ap (is_above bound s e) (sym back) ∙ sym answer)))))
+
+pub levels_known : (bound : ℕ) (levels cs : List ℤ) → bound ≤ 20 → cs ≡ filter is_nonzero (reverse levels) → AllSmall levels → is_beyond bound levels ≡ false → AreLevels (length cs, trailing_ones cs) 20 cs
+levels_known bound levels cs h found small within =
+    let P : List ℤ → Type 0 = λ t. AllNonzero t in
+    let Q : List ℤ → Type 0 = λ t. AllSmall t in
+    let nonzero = subst P (sym found) (AllNonzero-filter (reverse levels)) in
+    let in_range = subst Q (sym found) (all_filter _ is_nonzero (reverse levels) (all_reverse _ levels small)) in
+    let are = levels_are bound cs (ap (levels_above bound) found ∙ within) nonzero in_range in
+    record { count = are.count; ones = are.ones; others = coefficients_weaker bound _ _ _ h are.others }
+
+pub zeros_fit : (levels cs : List ℤ) (rs : List ℕ) → cs ≡ filter is_nonzero (reverse levels) → rs ≡ runs_of (reverse levels) → length cs + sum rs ≤ length levels
+zeros_fit levels cs rs found runs =
+    omega (arith, length_parts (reverse levels), length-reverse levels, ap (λ (t : List ℤ). length t) found, ap sum runs)
+
+pub text_is : (nc : ℤ) (max : ℕ) (levels cs : List ℤ) (rs : List ℕ) → cs ≡ filter is_nonzero (reverse levels) → rs ≡ runs_of (reverse levels) → max ≡ length levels → parts_text nc max cs rs ≡ block_text nc levels
+text_is nc max levels cs rs found runs size =
+    ap (λ m. parts_text nc m cs rs) size ∙ (ap (λ t. parts_text nc (length levels) t rs) found ∙ ap (parts_text nc (length levels) (filter is_nonzero (reverse levels))) runs)

@@ -1,0 +1,51 @@
+use Rattle.std.proofs.Common.{◌≡◌, ℤ, List, length, ◌++◌, Some, None, ap, sym, subst, w8, arith}
+use Rattle.std.specs.Option.{option_map}
+use Rattle.std.proofs.lemmas.Int.{to_z-of_z}
+use Rattle.bit_texts.proofs.Reading.{Reads-None}
+use Rattle.cavlc_residual.specs.Block.{block_text, IsBlock}
+use Rattle.cavlc_residual.proofs.BlockLemmas.{token_entry, token_of, size_of_shape, size-small, ends_at_token, ends_at_levels, ends_at_zeros, block_is_read, total_of}
+use Rattle.cavlc_residual.proofs.block.read_levels.Goals as goal
+
+pub returns-in_err-total-clause-reads : goal.returns-in_err-total-clause-reads
+returns-in_err-total-clause-reads g c =
+    Reads-None _ _ _ _ _ (ap (option_map _) c.from_residual.ensures)
+    (ends_at_token _ c.args.nc (length c.args.levels.now) c.args.bound _ (g.B.BitSource.left c.read_token.new.b) (to_z-of_z w8 c.args.nc c.ranges.nc) c.requires.shape c.in_err-total.ensures.reads)
+
+pub read_nonzero-requires-clause-ones : goal.read_nonzero-requires-clause-ones
+read_nonzero-requires-clause-ones g c =
+    let token = token_of _ c.args.nc (length c.args.levels.now) (c.in_ok-total.total, c.in_ok-total.ones) _ _ (to_z-of_z w8 c.args.nc c.ranges.nc) c.in_ok-total.ensures.reads in
+    (token_entry c.args.nc (length c.args.levels.now) c.in_ok-total.total c.in_ok-total.ones c.requires.shape token.0.0 token.0.1).0 token.0.2
+
+pub read_nonzero-requires-clause-few : goal.read_nonzero-requires-clause-few
+read_nonzero-requires-clause-few g c = omega (arith, c.in_ok-total.ensures.reads.0.0, size-small (length c.args.levels.now) (size_of_shape c.args.nc (length c.args.levels.now) c.requires.shape))
+
+pub returns-in_err-coefficients-clause-reads : goal.returns-in_err-coefficients-clause-reads
+returns-in_err-coefficients-clause-reads g c =
+    Reads-None _ _ _ _ _ (ap (option_map _) c.from_residual-in_err-coefficients.ensures)
+    (ends_at_levels _ c.args.nc (length c.args.levels.now) c.args.bound (c.in_ok-total.total, c.in_ok-total.ones) _ _ (g.B.BitSource.left c.read_nonzero.new.b) (to_z-of_z w8 c.args.nc c.ranges.nc) c.requires.shape c.in_ok-total.ensures.reads c.in_err-coefficients.ensures.reads)
+
+pub read_total_zeros-requires-clause-size : goal.read_total_zeros-requires-clause-size
+read_total_zeros-requires-clause-size g c = size_of_shape c.args.nc (length c.args.levels.now) c.requires.shape
+
+pub returns-in_err-zeros-clause-reads : goal.returns-in_err-zeros-clause-reads
+returns-in_err-zeros-clause-reads g c =
+    Reads-None _ _ _ _ _ (ap (option_map _) c.from_residual-in_err-zeros.ensures)
+    (ends_at_zeros _ c.args.nc (length c.args.levels.now) c.args.bound c.in_ok-total.total c.in_ok-total.ones c.in_ok-coefficients.coefficients.items _ _ _ (g.B.BitSource.left c.read_total_zeros.new.b) (to_z-of_z w8 c.args.nc c.ranges.nc) c.requires.shape c.requires.within c.in_ok-total.ensures.reads c.in_ok-coefficients.ensures.reads c.in_err-zeros.ensures.reads)
+
+pub read_runs-requires-clause-fits : goal.read_runs-requires-clause-fits
+read_runs-requires-clause-fits g c = omega (arith, c.in_ok-zeros.ensures.reads.0.0, size-small (length c.args.levels.now) (size_of_shape c.args.nc (length c.args.levels.now) c.requires.shape))
+
+pub returns-in_err-runs-clause-reads : goal.returns-in_err-runs-clause-reads
+returns-in_err-runs-clause-reads g c =
+    Reads-None _ _ _ _ _ (ap (option_map _) c.from_residual-in_err-runs.ensures)
+    (block_is_read _ c.args.nc (length c.args.levels.now) c.args.bound c.in_ok-total.total c.in_ok-total.ones c.in_ok-zeros.zeros c.in_ok-coefficients.coefficients.items _ _ _ _ (to_z-of_z w8 c.args.nc c.ranges.nc) c.requires.shape c.requires.within c.in_ok-total.ensures.reads c.in_ok-coefficients.ensures.reads c.in_ok-zeros.ensures.reads None (g.B.BitSource.left c.read_runs.new.b) c.in_err-runs.ensures.reads)
+
+pub returns-clause-reads : goal.returns-clause-reads
+returns-clause-reads g c =
+    let P : List ℤ → Type 0 = λ levels. IsBlock (length c.args.levels.now) c.args.bound levels × (g.B.BitSource.left c.args.b.now ≡ block_text c.args.nc levels ++ g.B.BitSource.left c.read_runs.new.b) in
+    subst P (sym c.place.ensures)
+    (block_is_read _ c.args.nc (length c.args.levels.now) c.args.bound c.in_ok-total.total c.in_ok-total.ones c.in_ok-zeros.zeros c.in_ok-coefficients.coefficients.items _ _ _ _ (to_z-of_z w8 c.args.nc c.ranges.nc) c.requires.shape c.requires.within c.in_ok-total.ensures.reads c.in_ok-coefficients.ensures.reads c.in_ok-zeros.ensures.reads (Some c.in_ok-runs.runs.items) _ c.in_ok-runs.ensures.reads)
+
+pub returns-clause-total : goal.returns-clause-total
+returns-clause-total g c =
+    total_of c.in_ok-total.total c.in_ok-total.ones c.args.bound _ c.in_ok-coefficients.coefficients.items c.in_ok-runs.runs.items _ c.in_ok-coefficients.ensures.reads.0 c.in_ok-runs.ensures.reads.0.0 c.place.ensures

@@ -1,0 +1,176 @@
+ghost use Rattle.std.specs.Prelude.{List, false, ◌≡◌, ℕ, ℤ, ◌≢◌, ◌↔◌, true, ◌+◌, ◌-◌, ◌<◌, ◌≤◌, ◌++◌, pos, length, sum, replicate, IfSome, option_map};
+ghost use Rattle.std.specs.List.{AllByRecursion};
+ghost use Rattle.arrayvec.specs.ArrayVec.{array_vec_len};
+ghost use Rattle.bit_texts.specs.Texts.{Reads, Appends, IsPrefixFree};
+ghost use Rattle.cavlc_residual.specs.Coefficients.{magnitude};
+ghost use Rattle.cavlc_residual.specs.Block.{IsShape, trailing_ones, total_coeff, levels_text, parts_text, block_text, is_beyond, IsBlock};
+ghost use Rattle.cavlc_residual.specs.Parts.{AreLevels, scan_of};
+
+use crate::coefficients::Coefficients;
+use crate::fault::BlockFault;
+use crate::parts::{extra_first, read_nonzero, read_token, suffix_length_first};
+use crate::runs::{Runs, read_runs, read_total_zeros};
+use crate::words::write_code;
+use crate::writing::{
+    count_ones, is_above_bound, separate, write_coefficients, write_runs, write_signs,
+};
+use arrayvec::ArrayVec;
+use code_tables::{coeff_token_table, total_zeros_table};
+use exp_golomb::{BitSink, BitSource};
+use std::alloc::AllocError as Memory;
+
+/// The levels of a block in scan order.
+pub type Levels = ArrayVec<i32, 64>;
+
+/// Puts levels other than 0 and the zeros behind them into a block, in scan order.
+fn place(block: &mut [i32], levels: &Coefficients, runs: &Runs)
+    requires pairs { array_vec_len levels.now ≡ array_vec_len runs.now }
+    requires fits { array_vec_len levels.now + sum runs.now.items ≤ length block.old }
+    requires small { length block.old ≤ 16 }
+    ensures { block.new ≡ scan_of levels.now.items runs.now.items ++ replicate (length block.old - (array_vec_len levels.now + sum runs.now.items)) (pos 0) }
+{
+    block.fill(0);
+    let mut next = 0usize;
+    let mut at = levels.len();
+    while at > 0 {
+        at -= 1;
+        next += usize::from(runs.as_slice()[at]);
+        block[next] = levels.as_slice()[at];
+        next += 1;
+    }
+}
+
+/// Reads a block of as many levels as the list that is lent has, into that list, and answers TotalCoeff.
+/// None exactly where no block in range has a text, with no level_prefix above `bound`, that begins the bits left;
+/// what the list then holds isn't said.
+pub fn read_levels<B: BitSource>(b: &mut B, nc: i8, levels: &mut [i32], bound: u8) -> Option<u8>
+    requires shape { IsShape nc (length levels.old) }
+    requires within { bound ≤ 20 }
+    ensures reads { Reads (IsBlock (length levels.old) bound) (block_text nc) (B.left b.old) (option_map (λ total. levels.new) result) (B.left b.new) }
+    ensures total { IfSome result (λ total. total ≡ total_coeff levels.new) }
+    ensures kept { B.taken b.new ++ B.left b.new ≡ B.taken b.old ++ B.left b.old }
+{
+    let max = levels.len() as u8;
+    let (total, ones) = read_token(b, nc, max)?;
+    let coefficients = read_nonzero(b, total, ones, bound)?;
+    let zeros = read_total_zeros(b, max, total)?;
+    let runs = read_runs(b, total, zeros)?;
+    place(levels, &coefficients, &runs);
+    Some(total)
+}
+
+/// Reads a block of `max` levels, as `read_levels` does.
+pub fn read_block<B: BitSource>(b: &mut B, nc: i8, max: u8, bound: u8) -> Option<Levels>
+    requires shape { IsShape nc max }
+    requires within { bound ≤ 20 }
+    ensures reads { Reads (IsBlock max bound) (block_text nc) (B.left b.old) (option_map (λ v. v.items) result) (B.left b.new) }
+    ensures kept { B.taken b.new ++ B.left b.new ≡ B.taken b.old ++ B.left b.old }
+{
+    let mut block = [0i32; 16];
+    let levels = &mut block[..usize::from(max)];
+    read_levels(b, nc, levels, bound)?;
+    Some(levels_of(levels))
+}
+
+/// The levels of a list.
+fn levels_of(list: &[i32]) -> Levels
+    requires { length list.now ≤ 64 }
+    ensures { result.items ≡ list.now }
+{
+    let mut levels = Levels::new();
+    for level in list {
+        levels.push(*level);
+    }
+    levels
+}
+
+/// Appends the text of the levels other than 0.
+fn write_nonzero<B: BitSink>(b: &mut B, levels: &Coefficients, ones: u8) -> Result<(), Memory>
+    requires ones { ones ≡ trailing_ones levels.now.items }
+    requires levels { AreLevels (array_vec_len levels.now, ones) 20 levels.now.items }
+    ensures { Appends (B.bits b.old) (B.bits b.new) (levels_text levels.now.items) result }
+{
+    let total = levels.len() as u8;
+    let (signs, others) = levels.as_slice().split_at(usize::from(ones));
+    write_signs(b, signs)?;
+    write_coefficients(
+        b,
+        others,
+        suffix_length_first(total, ones),
+        extra_first(ones),
+    )
+}
+
+/// How many zeros stand behind levels.
+fn count_zeros(runs: &Runs) -> u8
+    requires { sum runs.now.items ≤ 16 }
+    ensures { result ≡ sum runs.now.items }
+{
+    runs.as_slice().iter().sum()
+}
+
+/// Appends the text of a block whose parts are these.
+fn write_parts<B: BitSink>(
+    b: &mut B,
+    nc: i8,
+    max: u8,
+    levels: &Coefficients,
+    runs: &Runs,
+) -> Result<(), Memory>
+    requires max { max ≤ 16 }
+    requires levels { AreLevels (array_vec_len levels.now, trailing_ones levels.now.items) 20 levels.now.items }
+    requires zeros { array_vec_len levels.now + sum runs.now.items ≤ max }
+    ensures { Appends (B.bits b.old) (B.bits b.new) (parts_text nc max levels.now.items runs.now.items) result }
+{
+    let total = levels.len() as u8;
+    let ones = count_ones(levels.as_slice());
+    let zeros = count_zeros(runs);
+    write_code(b, &coeff_token_table(nc), usize::from(4 * total + ones))?;
+    write_nonzero(b, levels, ones)?;
+    write_code(b, &total_zeros_table(max, total), usize::from(zeros))?;
+    write_runs(b, zeros, runs.as_slice())
+}
+
+/// Appends the text of a block of these levels, as `read_levels` reads it. Beyond is answered exactly where some level
+/// needs a level_prefix above `bound`, and then nothing is written. Where memory runs out a front of the text is written.
+pub fn write_levels<B: BitSink>(
+    b: &mut B,
+    nc: i8,
+    levels: &[i32],
+    bound: u8,
+) -> Result<(), BlockFault>
+    requires shape { IsShape nc (length levels.now) }
+    requires small { AllByRecursion (λ l. magnitude l ≤ 65535) levels.now }
+    requires within { bound ≤ 20 }
+    ensures beyond { (result ≡ Err BlockFault.Beyond) ↔ (is_beyond bound levels.now ≡ true) }
+    ensures unwritten { result ≡ Err BlockFault.Beyond → B.bits b.new ≡ B.bits b.old }
+    ensures written { result ≢ Err BlockFault.Beyond → Appends (B.bits b.old) (B.bits b.new) (block_text nc levels.now) result }
+{
+    let (coefficients, runs) = separate(levels);
+    let total = coefficients.len() as u8;
+    let ones = count_ones(coefficients.as_slice());
+    let (_signs, others) = coefficients.as_slice().split_at(usize::from(ones));
+    let suffix_length = suffix_length_first(total, ones);
+    if is_above_bound(others, suffix_length, extra_first(ones), bound) {
+        return Err(BlockFault::Beyond);
+    }
+    write_parts(b, nc, levels.len() as u8, &coefficients, &runs)?;
+    Ok(())
+}
+
+/// Appends the text of a block, as `write_levels` does.
+pub fn write_block<B: BitSink>(
+    b: &mut B,
+    nc: i8,
+    levels: &Levels,
+    bound: u8,
+) -> Result<(), BlockFault>
+    requires shape { IsShape nc (array_vec_len levels.now) }
+    requires small { AllByRecursion (λ l. magnitude l ≤ 65535) levels.now.items }
+    requires within { bound ≤ 20 }
+    ensures beyond { (result ≡ Err BlockFault.Beyond) ↔ (is_beyond bound levels.now.items ≡ true) }
+    ensures unwritten { result ≡ Err BlockFault.Beyond → B.bits b.new ≡ B.bits b.old }
+    ensures written { result ≢ Err BlockFault.Beyond → Appends (B.bits b.old) (B.bits b.new) (block_text nc levels.now.items) result }
+{
+    write_levels(b, nc, levels.as_slice(), bound)
+}

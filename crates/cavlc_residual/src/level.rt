@@ -1,0 +1,100 @@
+ghost use Rattle.std.specs.Prelude.{◌≡◌, ◌<◌, ◌≤◌, ◌^◌, ◌++◌, IfSome, IfNone};
+ghost use Rattle.bit_texts.specs.Texts.{Reads, Appends};
+ghost use Rattle.cavlc_residual.specs.Level.{prefix_bits, suffix_size, level_code, level_word, word_bits, IsLevelWord};
+
+use exp_golomb::{BitSink, BitSource, read_u, write_u};
+use std::alloc::AllocError as Memory;
+
+/// Reads a level_prefix of at most `bound`: that many zeros and a one.
+fn read_prefix<B: BitSource>(b: &mut B, bound: u8) -> Option<u8>
+    requires { bound ≤ 20 }
+    ensures reads { Reads (λ p. p ≤ bound) prefix_bits (B.left b.old) result (B.left b.new) }
+    ensures kept { B.taken b.new ++ B.left b.new ≡ B.taken b.old ++ B.left b.old }
+{
+    let zeros = b.window().leading_zeros() as u8;
+    if zeros > bound {
+        return None;
+    }
+    if !b.skip(zeros + 1) {
+        return None;
+    }
+    Some(zeros)
+}
+
+/// The number of bits of level_suffix.
+fn size_of_suffix(suffix_length: u8, prefix: u8) -> u8
+    requires small { suffix_length ≤ 6 }
+    requires within { prefix ≤ 20 }
+    ensures size { result ≡ suffix_size suffix_length prefix }
+    ensures small { result ≤ 17 }
+{
+    if prefix >= 15 {
+        prefix - 3
+    } else if prefix == 14 && suffix_length == 0 {
+        4
+    } else {
+        suffix_length
+    }
+}
+
+/// Reads level_prefix and level_suffix.
+pub fn read_level<B: BitSource>(b: &mut B, suffix_length: u8, bound: u8) -> Option<(u8, u32)>
+    requires small { suffix_length ≤ 6 }
+    requires within { bound ≤ 20 }
+    ensures reads { Reads (IsLevelWord suffix_length bound) (word_bits suffix_length) (B.left b.old) result (B.left b.new) }
+    ensures kept { B.taken b.new ++ B.left b.new ≡ B.taken b.old ++ B.left b.old }
+{
+    let prefix = read_prefix(b, bound)?;
+    let suffix = read_u(b, size_of_suffix(suffix_length, prefix))?;
+    Some((prefix, suffix))
+}
+
+/// levelCode of a level_prefix and a level_suffix.
+pub fn code_of_level(suffix_length: u8, prefix: u8, suffix: u32) -> u32
+    requires small { suffix_length ≤ 6 }
+    requires is_word { IsLevelWord suffix_length 20 (prefix, suffix) }
+    ensures { result ≡ level_code suffix_length prefix suffix }
+{
+    let mut code = (u32::from(prefix.min(15)) << suffix_length) + suffix;
+    if prefix >= 15 && suffix_length == 0 {
+        code += 15;
+    }
+    if prefix >= 16 {
+        code += (1 << (prefix - 3)) - 4096;
+    }
+    code
+}
+
+/// The level_prefix and level_suffix of a levelCode. None exactly where the prefix would be
+/// above `bound`.
+pub fn level_of_code(suffix_length: u8, code: u32, bound: u8) -> Option<(u8, u32)>
+    requires small { suffix_length ≤ 6 }
+    requires within { bound ≤ 20 }
+    ensures found { IfSome result (λ w. (w ≡ level_word suffix_length code) × IsLevelWord suffix_length bound w) }
+    ensures beyond { IfNone result (bound < (level_word suffix_length code).0) }
+{
+    let mut rest = code;
+    for prefix in 0..bound + 1 {
+        let codes = 1 << size_of_suffix(suffix_length, prefix);
+        if rest < codes {
+            return Some((prefix, rest));
+        }
+        rest -= codes;
+    }
+    None
+}
+
+/// Appends level_prefix and level_suffix.
+pub fn write_level<B: BitSink>(
+    b: &mut B,
+    suffix_length: u8,
+    prefix: u8,
+    suffix: u32,
+) -> Result<(), Memory>
+    requires small { suffix_length ≤ 6 }
+    requires is_word { IsLevelWord suffix_length 20 (prefix, suffix) }
+    ensures { Appends (B.bits b.old) (B.bits b.new) (word_bits suffix_length (prefix, suffix)) result }
+{
+    write_u(b, 1, prefix + 1)?;
+    write_u(b, suffix, size_of_suffix(suffix_length, prefix))
+}

@@ -1,0 +1,32 @@
+ghost use Rattle.std.specs.Prelude.{◌≡◌, ◌++◌};
+ghost use Rattle.bit_texts.specs.Texts.{Appends, Reads};
+ghost use Rattle.code_tables.specs.Codes.{IsCodeTable, IsEntry, word_at};
+
+use code_tables::CodeTable;
+use exp_golomb::{BitSink, BitSource};
+use std::alloc::AllocError as Memory;
+
+/// Reads a code word of the table: its place. None exactly where no word of the table begins the bits left.
+pub fn read_code<B: BitSource>(b: &mut B, table: &CodeTable) -> Option<u8>
+    requires { IsCodeTable table.now }
+    ensures reads { Reads (IsEntry table.now) (word_at table.now) (B.left b.old) result (B.left b.new) }
+    ensures kept { B.taken b.new ++ B.left b.new ≡ B.taken b.old ++ B.left b.old }
+{
+    let place = table.next(b.window())?;
+    let (length, _value) = table.code(usize::from(place))?;
+    if !b.skip(length) {
+        return None;
+    }
+    Some(place)
+}
+
+/// Appends the code word at a place of a table, or nothing where there is none.
+pub fn write_code<B: BitSink>(b: &mut B, table: &CodeTable, place: usize) -> Result<(), Memory>
+    requires { IsCodeTable table.now }
+    ensures { Appends (B.bits b.old) (B.bits b.new) (word_at table.now place) result }
+{
+    match table.code(place) {
+        Some((length, value)) => b.put_bits(u64::from(value), length),
+        None => Ok(()),
+    }
+}

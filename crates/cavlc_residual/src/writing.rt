@@ -1,0 +1,122 @@
+ghost use Rattle.std.specs.Prelude.{◌≡◌, ◌≢◌, ◌-◌, ◌<◌, ◌≤◌, ◌↔◌, IsTrue, true, false, length, map, take, drop, filter, reverse, sum};
+ghost use Rattle.std.specs.List.{AllByRecursion};
+ghost use Rattle.arrayvec.specs.ArrayVec.{array_vec_len};
+ghost use Rattle.bit_texts.specs.Texts.{Appends};
+ghost use Rattle.cavlc_residual.specs.Coefficients.{magnitude, is_minus, coefficients_text, AreCoefficients};
+ghost use Rattle.cavlc_residual.specs.Block.{is_nonzero, runs_of, is_one as one_test, trailing_ones, runs_text, is_above};
+
+use crate::coefficients::{Coefficients, is_prefix_above, suffix_length_after, write_coefficient};
+use crate::runs::{Runs, write_run};
+use exp_golomb::BitSink;
+use std::alloc::AllocError as Memory;
+
+/// The levels other than 0, from the highest frequency down, and the runs of zeros behind them.
+pub fn separate(levels: &[i32]) -> (Coefficients, Runs)
+    requires few { length levels.now ≤ 16 }
+    requires small { AllByRecursion (λ l. magnitude l ≤ 65535) levels.now }
+    ensures levels { result.0.items ≡ filter is_nonzero (reverse levels.now) }
+    ensures runs { result.1.items ≡ runs_of (reverse levels.now) }
+    ensures pairs { array_vec_len result.1 ≡ array_vec_len result.0 }
+    ensures few { array_vec_len result.0 ≤ length levels.now }
+{
+    let mut coefficients = Coefficients::new();
+    let mut runs = Runs::new();
+    let mut zeros = 0u8;
+    for level in levels {
+        if *level == 0 {
+            zeros += 1;
+        } else {
+            coefficients.push(*level);
+            runs.push(zeros);
+            zeros = 0;
+        }
+    }
+    coefficients.as_mut_slice().reverse();
+    runs.as_mut_slice().reverse();
+    (coefficients, runs)
+}
+
+/// How many trailing ones there are.
+pub fn count_ones(levels: &[i32]) -> u8
+    ensures { result ≡ trailing_ones levels.now }
+{
+    match levels {
+        [first, second, third, ..] if is_one(*first) && is_one(*second) && is_one(*third) => 3,
+        [first, second, ..] if is_one(*first) && is_one(*second) => 2,
+        [first, ..] if is_one(*first) => 1,
+        _ => 0,
+    }
+}
+
+fn is_one(level: i32) -> bool
+    ensures { result ≡ one_test level }
+{
+    level == 1 || level == -1
+}
+
+/// Whether some level needs a level_prefix above the bound.
+pub fn is_above_bound(levels: &[i32], suffix_length: u8, extra: u8, bound: u8) -> bool
+    requires nonzero { AllByRecursion (λ l. is_nonzero l ≡ true) levels.now }
+    requires level_small { AllByRecursion (λ l. magnitude l ≤ 65535) levels.now }
+    requires small { suffix_length ≤ 6 }
+    requires within { bound ≤ 20 }
+    ensures { result ≡ is_above bound suffix_length extra levels.now }
+{
+    let mut suffix_length = suffix_length;
+    let mut extra = extra;
+    for i in 0..levels.len() {
+        let level = levels[i];
+        if is_prefix_above(level, suffix_length, extra, bound) {
+            return true;
+        }
+        suffix_length = suffix_length_after(suffix_length, level);
+        extra = 0;
+    }
+    false
+}
+
+/// Appends the signs of trailing ones.
+pub fn write_signs<B: BitSink>(b: &mut B, ones: &[i32]) -> Result<(), Memory>
+    ensures { Appends (B.bits b.old) (B.bits b.new) (map is_minus ones.now) result }
+{
+    for i in 0..ones.len() {
+        b.put(ones[i] < 0)?;
+    }
+    Ok(())
+}
+
+/// Appends the levels behind the trailing ones.
+pub fn write_coefficients<B: BitSink>(
+    b: &mut B,
+    levels: &[i32],
+    suffix_length: u8,
+    extra: u8,
+) -> Result<(), Memory>
+    requires small { suffix_length ≤ 6 }
+    requires levels { AreCoefficients 20 suffix_length extra levels.now }
+    ensures { Appends (B.bits b.old) (B.bits b.new) (coefficients_text suffix_length extra levels.now) result }
+{
+    let mut suffix_length = suffix_length;
+    let mut extra = extra;
+    for i in 0..levels.len() {
+        let level = levels[i];
+        write_coefficient(b, level, suffix_length, extra)?;
+        suffix_length = suffix_length_after(suffix_length, level);
+        extra = 0;
+    }
+    Ok(())
+}
+
+/// Appends the runs of zeros behind all levels but the last.
+pub fn write_runs<B: BitSink>(b: &mut B, zeros: u8, runs: &[u8]) -> Result<(), Memory>
+    requires { sum runs.now ≤ zeros }
+    ensures { Appends (B.bits b.old) (B.bits b.new) (runs_text zeros runs.now) result }
+{
+    let mut left = zeros;
+    for i in 0..runs.len().saturating_sub(1) {
+        let run = runs[i];
+        write_run(b, left, run)?;
+        left -= run;
+    }
+    Ok(())
+}

@@ -1,0 +1,4 @@
+pub mod CodeTables
+pub mod Groups
+pub mod PatternCodes
+pub mod Tables

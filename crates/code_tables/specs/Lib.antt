@@ -1,0 +1,6 @@
+pub mod Codes
+pub mod Groups
+pub mod CoeffToken
+pub mod TotalZeros
+pub mod RunBefore
+pub mod CodedBlockPattern

@@ -1,0 +1,22 @@
+//! The code tables of CAVLC (ITU-T H.264, 9.2): coeff_token, total_zeros and run_before, and the mapping of
+//! coded_block_pattern (9.1.2). Each printed table stands here once, and the definitions in specs/ read these lists:
+//! they are to be compared with the standard's.
+//! A `CodeTable` finds the code word that the next bits begin with, at once. Nothing here takes memory.
+#![tactic(auto)]
+
+pub mod laws;
+mod patterns;
+mod places;
+mod runs;
+mod table;
+mod tokens;
+mod zeros;
+
+pub use patterns::{Pattern, code_of_pattern, pattern_of};
+pub use runs::{run_before, run_before_table};
+pub use table::{Code, CodeTable};
+pub use tokens::{coeff_token, coeff_token_table};
+pub use zeros::{total_zeros, total_zeros_table};
+
+#[cfg(test)]
+mod tests;
