@@ -1,0 +1,17 @@
+use param_sets::{Pps, Sps};
+
+/// The sets that a slice is read under (7.4.1.2.1).
+#[derive(Clone, Copy, Drop)]
+pub struct ActiveSets<'a> {
+    pub sps: &'a Sps,
+    pub pps: &'a Pps,
+}
+
+/// What a slice header begins with, and the sets that it names.
+#[derive(Clone, Copy, Drop)]
+pub struct SliceStart<'a> {
+    pub first_mb_in_slice: u32,
+    pub slice_type: u32,
+    pub pic_parameter_set_id: u32,
+    pub active: ActiveSets<'a>,
+}

@@ -1,0 +1,121 @@
+ghost use Rattle.std.specs.Prelude.{◌≡◌, ◌&&◌, not, IfOk, ◌++◌};
+ghost use Rattle.exp_golomb.specs.Syntax.{outcome_of, Answers};
+ghost use Rattle.param_sets.specs.PpsCodes.{IsPps};
+ghost use Rattle.param_sets.specs.SpsCodes.{IsSps};
+ghost use Rattle.slice_header.specs.HeaderCodes.{IsUnder, ReadsHeader};
+ghost use Rattle.slice_header.specs.Refusal.{header_says};
+ghost use Rattle.slice_header.specs.SliceHeader.{is_i, is_built, has_init, after_start, slice_header};
+ghost use Rattle.slice_header.specs.Views.{active_view, start_view};
+
+use crate::active_sets::SliceStart;
+use crate::fault::HeaderFault;
+use crate::header::Header;
+use crate::read_element::ue_when;
+use crate::read_marking::read_marking;
+use crate::read_parts::{read_deblocking, read_picture_number, read_picture_order, read_slice_qp};
+use crate::read_start_text::read_start;
+use exp_golomb::BitSource;
+use param_sets::{Pps, Sets};
+use std::alloc::Global;
+
+/// Whether a slice type is I (Table 7-6).
+pub fn is_i_slice(slice_type: u32) -> bool
+    ensures { result ≡ is_i slice_type }
+{
+    slice_type % 5 == 2
+}
+
+/// Whether cabac_init_idc stands.
+pub fn has_cabac_init(pps: &Pps, slice_type: u32) -> bool
+    ensures { result ≡ has_init pps.now slice_type }
+{
+    pps.entropy_coding_mode_flag && !is_i_slice(slice_type)
+}
+
+/// Whether slices of this form are read.
+fn is_built_start(start: &SliceStart<'_>) -> bool
+    ensures { result ≡ is_built start.now.slice_type (active_view start.now.active) }
+{
+    is_i_slice(start.slice_type)
+        && start.active.sps.frame_mbs_only_flag
+        && !start.active.pps.entropy_coding_mode_flag
+}
+
+/// What follows the start.
+#[tactic(auto, using(exp_golomb::proofs::Syntaxes::outcome_of_then), unfolding(exp_golomb::specs::Syntax::outcome_of, crate::specs::SliceHeader::after_start))]
+fn read_after_start<B: BitSource>(
+    alloc: Global,
+    nal: u8,
+    start: &SliceStart<'_>,
+    bits: &mut B,
+) -> Result<Header, HeaderFault>
+    requires { IsSps start.now.active.sps.now × IsPps start.now.active.pps.now }
+    ensures answers { Answers header_says (λ x. x) result (B.left bits.new) (outcome_of (after_start nal (start_view start.now)) (B.left bits.old)) }
+    ensures kept { B.taken bits.new ++ B.left bits.new ≡ B.taken bits.old ++ B.left bits.old }
+{
+    let active = &start.active;
+    let picture = read_picture_number(bits, active.sps, nal)?;
+    let order = read_picture_order(alloc, bits, active, picture.field_pic_flag)?;
+    let marking = read_marking(alloc, bits, nal)?;
+    let has_init = has_cabac_init(active.pps, start.slice_type);
+    let cabac_init_idc = ue_when(bits, has_init, 2)?;
+    let slice_qp_delta = read_slice_qp(bits, active.pps)?;
+    let filter = read_deblocking(bits, active.pps.deblocking_filter_control_present_flag)?;
+    Ok(Header {
+        nal,
+        first_mb_in_slice: start.first_mb_in_slice,
+        slice_type: start.slice_type,
+        pic_parameter_set_id: start.pic_parameter_set_id,
+        frame_num: picture.frame_num,
+        field_pic_flag: picture.field_pic_flag,
+        bottom_field_flag: picture.bottom_field_flag,
+        idr_pic_id: picture.idr_pic_id,
+        pic_order_cnt_lsb: order.pic_order_cnt_lsb,
+        delta_pic_order_cnt_bottom: order.delta_pic_order_cnt_bottom,
+        delta_pic_order_cnt: order.delta_pic_order_cnt,
+        no_output_of_prior_pics_flag: marking.no_output_of_prior_pics_flag,
+        long_term_reference_flag: marking.long_term_reference_flag,
+        adaptive_ref_pic_marking_mode_flag: marking.adaptive_ref_pic_marking_mode_flag,
+        memory_management_control_operation: marking.operations,
+        cabac_init_idc,
+        slice_qp_delta,
+        disable_deblocking_filter_idc: filter.disable_deblocking_filter_idc,
+        slice_alpha_c0_offset_div2: filter.slice_alpha_c0_offset_div2,
+        slice_beta_offset_div2: filter.slice_beta_offset_div2,
+    })
+}
+
+#[tactic(auto, using(exp_golomb::proofs::Syntaxes::outcome_of_then), unfolding(exp_golomb::specs::Syntax::outcome_of, crate::specs::SliceHeader::slice_header))]
+fn read_whole<B: BitSource>(
+    alloc: Global,
+    sets: &Sets,
+    header: u8,
+    bits: &mut B,
+) -> Result<Header, HeaderFault>
+    ensures answers { Answers header_says (λ x. x) result (B.left bits.new) (outcome_of (slice_header sets.now header) (B.left bits.old)) }
+    ensures kept { B.taken bits.new ++ B.left bits.new ≡ B.taken bits.old ++ B.left bits.old }
+{
+    let start = read_start(sets, bits)?;
+    if !is_built_start(&start) {
+        return Err(HeaderFault::Unbuilt);
+    }
+    read_after_start(alloc, header, &start, bits)
+}
+
+/// The slice header (7.3.3) of a unit with this header byte, under the sets that stand; just its text is taken. What
+/// `read_start` refuses is refused as it says; then slices other than I slices of frames in CAVLC are `Unbuilt`, before
+/// frame_num; and a text of no header is `NoReading`, at the element where it stops being one.
+pub fn read_header<B: BitSource>(
+    alloc: Global,
+    sets: &Sets,
+    header: u8,
+    bits: &mut B,
+) -> Result<Header, HeaderFault>
+    ensures reads { ReadsHeader sets.now header result (B.left bits.old) (B.left bits.new) }
+    ensures in_range { IfOk result (λ h. IsUnder sets.now h × (h.nal ≡ header)) }
+    // The same as a function of the bits.
+    ensures exact { Answers header_says (λ x. x) result (B.left bits.new) (outcome_of (slice_header sets.now header) (B.left bits.old)) }
+    ensures kept { B.taken bits.new ++ B.left bits.new ≡ B.taken bits.old ++ B.left bits.old }
+{
+    read_whole(alloc, sets, header, bits)
+}
