@@ -1,5 +1,5 @@
 //! The top call: from a source of bytes to a sink, with a report of how it ended.
-ghost use Rattle.std.specs.Prelude.{◌≡◌, ◌+◌, ◌^◌, ◌<◌, ◌≤◌, ◌∷◌, ◌++◌, [], ℕ, List, length, map, take, string_bytes, OnOk, OnErr, IfErr};
+ghost use Rattle.std.specs.Prelude.{◌≡◌, ◌+◌, ◌^◌, ◌<◌, ◌≤◌, ◌∷◌, ◌++◌, [], ℕ, List, length, map, min, take, string_bytes, OnOk, OnErr, IfErr};
 ghost use Rattle.std.specs.Io.KnownBytes.{Appends};
 ghost use Rattle.unit_io.specs.Faults.{Rose, HasCause, HasSinkCause};
 ghost use Rattle.h264_types.specs.Units.{seen};
@@ -259,7 +259,7 @@ fn read_some<S: Source>(src: &mut S, buf: &mut [u8], room: usize) -> Result<usiz
 fn room_for(left: u64) -> usize
     ensures some { 0 < result }
     ensures fits { result ≤ PIECE }
-    ensures within { 0 < left → result ≤ left }
+    ensures most { 0 < left → result ≡ min left 65536 }
     ensures one { left ≡ 0 → result ≡ 1 }
 {
     if left == 0 {

@@ -1,4 +1,4 @@
-use Rattle.std.proofs.Common.{◌≡◌, ◌≢◌, ◌≤◌, ◌<◌, ◌+◌, ◌-◌, List, ℕ, [], take, arith, refl, sym, subst}
+use Rattle.std.proofs.Common.{◌≡◌, ◌≢◌, ◌≤◌, ◌<◌, ◌+◌, ◌-◌, List, ℕ, [], min, take, arith, refl, sym, subst}
 use Rattle.std.proofs.lemmas.List.{length-take-le}
 use Rattle.std.specs.Io.KnownBytes.{Consumes}
 use Rattle.h264recode.proofs.Reading.{reads-none, reads-more, read_fault, too_much, step_ends, finish_ends, finished, no_read_fault}
@@ -9,7 +9,7 @@ none_read : (P : List ℕ → Type 0) (n : ℕ) (buf : List ℕ) → n ≡ 0 →
 none_read P n buf e h = let Q : ℕ → Type 0 = λ k. P (take k buf) in subst Q e h
 
 -- a read stays within the bound
-within_bound : (taken bound room n : ℕ) → taken ≤ bound → taken ≢ bound → (0 < bound - taken → room ≤ bound - taken) → n ≤ room → taken + n ≤ bound
+within_bound : (taken bound room n : ℕ) → taken ≤ bound → taken ≢ bound → (0 < bound - taken → room ≡ min (bound - taken) 65536) → n ≤ room → taken + n ≤ bound
 within_bound taken bound room n le ne h k =
     let some : 0 < bound - taken = omega arith in
     omega (arith, h some)
@@ -83,7 +83,7 @@ returns-in-Err-step-clause-ends g c =
     let same = length-take-le c.in-Ok.count c.read_some.new.buf k.1 in
     let room = c.room_for-room.ensures in
     let fits : c.reading.taken + c.in-Ok.count ≤ c.args.bound =
-    within_bound c.reading.taken c.args.bound c.room_for-room.result c.in-Ok.count i.within c.if-taken-bound.false room.within k.0 in
+    within_bound c.reading.taken c.args.bound c.room_for-room.result c.in-Ok.count i.within c.if-taken-bound.false room.most k.0 in
     step_ends o (left c.args.src.now) (left c.reading.src) (left c.read_some.new.src) (held c.args.out.now) (held c.reading.out) (held c.step.new.out) c.reading.recoder c.reading.account c.step.new.account c.reading.taken c.in-Ok.count c.args.bound piece c.in-Err-step.status
     i.reads k.2 (sym same) (omega (arith, k.0, room.fits)) fits (c.in-Err-step.ensures.err o)
 
@@ -106,7 +106,7 @@ reading-preserved g c =
     record {
       reads = reads-more o (left c.args.src.now) (left c.reading.src) (left c.read_some.new.src) (held c.args.out.now) (held c.reading.out) (held c.step.new.out) c.reading.recoder c.step.new.recoder c.reading.account c.read.new.self c.step.new.account c.reading.taken c.in-Ok.count piece
           i.reads k.2 (sym same) c.read.ensures (c.in_default.ensures.ok o);
-      within = within_bound c.reading.taken c.args.bound c.room_for-room.result c.in-Ok.count i.within c.if-taken-bound.false c.room_for-room.ensures.within k.0;
+      within = within_bound c.reading.taken c.args.bound c.room_for-room.result c.in-Ok.count i.within c.if-taken-bound.false c.room_for-room.ensures.most k.0;
       read = omega (arith, i.read, c.read_some.ensures.cause.later);
       write = omega (arith, i.write, c.step.ensures.later);
     }
