@@ -14,13 +14,10 @@ use crate::words::write_code;
 use crate::writing::{
     count_ones, is_above_bound, separate, write_coefficients, write_runs, write_signs,
 };
-use arrayvec::ArrayVec;
 use code_tables::{coeff_token_table, total_zeros_table};
 use exp_golomb::{BitSink, BitSource};
+use h264_types::Levels;
 use std::alloc::AllocError as Memory;
-
-/// The levels of a block in scan order.
-pub type Levels = ArrayVec<i32, 64>;
 
 /// Puts levels other than 0 and the zeros behind them into a block, in scan order.
 fn place(block: &mut [i32], levels: &Coefficients, runs: &Runs)

@@ -12,7 +12,7 @@ mod runs;
 mod words;
 mod writing;
 
-pub use block::{Levels, read_block, read_levels, write_block, write_levels};
+pub use block::{read_block, read_levels, write_block, write_levels};
 pub use fault::BlockFault;
 
 #[cfg(test)]

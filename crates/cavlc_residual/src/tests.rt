@@ -5,6 +5,7 @@ ghost use Rattle.cavlc_residual.specs.Block.{IsShape};
 
 use super::*;
 use exp_golomb::{BitSink, BitVec, SliceBits};
+use h264_types::Levels;
 use std::alloc::Global;
 use std::test::Fail;
 

@@ -2,3 +2,4 @@ pub mod CodeTables
 pub mod Groups
 pub mod PatternCodes
 pub mod Tables
+pub mod MapsOfBlocks

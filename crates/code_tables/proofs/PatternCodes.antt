@@ -5,7 +5,7 @@ use Rattle.std.specs.List.{list_all}
 use Rattle.std.proofs.lemmas.Bool.{false≢true, and_parts, eqb-true, ltb-true}
 use Rattle.std.proofs.lemmas.Nat.{shr_high, mod_low, div_below, mod_below}
 use Rattle.code_tables.specs.CodedBlockPattern.{pattern_at}
-use Rattle.code_tables.specs.declared.patterns.Pattern.{Pattern}
+use Rattle.h264_types.specs.declared.macroblock.Pattern.{Pattern}
 use Rattle.code_tables.specs.declared.patterns.TheConstants.{INTRA_PATTERNS, INTER_PATTERNS, INTRA_CODES, INTER_CODES}
 use Rattle.code_tables.proofs.CodeTables.{all_below, all_below-at}
 

@@ -1,7 +1,7 @@
 -- coded_block_pattern, me(v) (9.1.2, Table 9-4).
 use Rattle.std.specs.Prelude.{ℕ, ◌/◌, ◌%◌, Bool, true, false, List, Option, slice_get, option_map}
 use Rattle.code_tables.specs.declared.patterns.TheConstants.{INTRA_PATTERNS, INTER_PATTERNS}
-use Rattle.code_tables.specs.declared.patterns.Pattern.{Pattern}
+use Rattle.h264_types.specs.declared.macroblock.Pattern.{Pattern}
 
 -- the numbers of the patterns in the order of their codeNum: of I_NxN, or of inter macroblocks
 abbrev pub pattern_list : Bool → List ℕ

@@ -4,3 +4,4 @@ pub mod CoeffToken
 pub mod TotalZeros
 pub mod RunBefore
 pub mod CodedBlockPattern
+pub mod SignificanceMaps

@@ -2,7 +2,7 @@
 //! coded block pattern has one code.
 ghost use Rattle.std.specs.Prelude.{◌≡◌, ◌<◌, ℕ, ℤ, Bool, Some};
 ghost use Rattle.code_tables.specs.CodedBlockPattern.{pattern_at};
-ghost use Rattle.code_tables.specs.declared.patterns.Pattern.{Pattern};
+ghost use Rattle.h264_types.specs.declared.macroblock.Pattern.{Pattern};
 ghost use Rattle.code_tables.specs.Codes.{IsCodeTable, weight};
 ghost use Rattle.code_tables.specs.CoeffToken.{coeff_token_list};
 ghost use Rattle.code_tables.specs.RunBefore.{run_before_list};

@@ -1,14 +1,7 @@
 ghost use Rattle.std.specs.Prelude.{◌≡◌, ◌≢◌, ℕ, IfSome, IfNone, Some};
 ghost use Rattle.code_tables.specs.CodedBlockPattern.{pattern_at, pattern_list};
 
-/// A coded block pattern (7.4.5).
-#[derive(Clone, Copy, Debug, PartialEq, Eq)]
-pub struct Pattern {
-    /// CodedBlockPatternLuma: a bit for each luma quarter.
-    pub luma: u8,
-    /// CodedBlockPatternChroma, 0 to 2.
-    pub chroma: u8,
-}
+use h264_types::Pattern;
 
 /// The patterns in the order of their codeNum: of I_NxN, or of inter macroblocks.
 fn patterns(intra: bool) -> &'static [u8]

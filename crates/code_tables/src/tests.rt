@@ -1,6 +1,7 @@
 ghost use Rattle.std.specs.Prelude.{◌≤◌};
 
 use super::*;
+use h264_types::Pattern;
 
 #[test]
 fn entries(rt: HostRuntime) {
@@ -141,4 +142,17 @@ fn run_before_has_its_words(rt: HostRuntime) {
         }
         assert_eq!(rt; sum, wanted, "at zerosLeft {left}");
     }
+}
+
+// The sums, each entry times its place and one, were made from another copy of the printed maps.
+#[test]
+fn maps_have_their_entries(rt: HostRuntime) {
+    let (mut frame, mut field, mut last) = (0u32, 0u32, 0u32);
+    for place in 0u8..63 {
+        let weight = u32::from(place) + 1;
+        frame = frame.saturating_add(weight.saturating_mul(u32::from(sig_map(false, place))));
+        field = field.saturating_add(weight.saturating_mul(u32::from(sig_map(true, place))));
+        last = last.saturating_add(weight.saturating_mul(u32::from(last_map(place))));
+    }
+    assert_eq!(rt; (frame, field, last), (18509, 20832, 8663));
 }

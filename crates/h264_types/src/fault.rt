@@ -27,7 +27,7 @@ pub enum Why {
     Unit,
     /// The unit's nal_unit_type is out of scope.
     Kind,
-    /// The unit's reading isn't built yet.
+    /// The unit isn't read yet, or isn't written yet in the wanted layer.
     Unbuilt,
     /// The unit has no escaped form (7.4.1).
     Escape,
@@ -41,7 +41,7 @@ pub enum Why {
     Limit,
     /// No slice header begins the unit's payload (7.3.3).
     Header,
-    /// The slice names a sequence parameter set with this number, which wasn't read.
+    /// The slice's picture parameter set names a sequence parameter set with this number, which wasn't read.
     MissingSps(u8),
     /// The slice names a picture parameter set with this number, which wasn't read.
     MissingPps(u8),

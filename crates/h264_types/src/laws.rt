@@ -1,6 +1,8 @@
-//! Laws of the byte stream format: functions that do nothing, whose clauses are the laws.
-ghost use Rattle.std.specs.Prelude.{◌≡◌, ◌↔◌, ◌≤◌, List, ℕ, [], ◌∷◌, ◌++◌, length, Option, Some, None};
+//! Laws of the byte stream format and of macroblocks: functions that do nothing, whose clauses are the laws.
+ghost use Rattle.std.specs.Prelude.{◌≡◌, ◌↔◌, ◌≤◌, List, ℕ, [], ◌∷◌, ◌++◌, length, Option, Some, None, pos};
 ghost use Rattle.h264_types.specs.declared.fault.Why.{Why};
+ghost use Rattle.h264_types.specs.declared.macroblock.Mb.{Mb};
+ghost use Rattle.h264_types.specs.Qp.{qp_of};
 ghost use Rattle.h264_types.specs.declared.fault.Why.TheVariants.{NoStart, Unit as BadUnit};
 ghost use Rattle.h264_types.specs.Units.{Seen, Splits, Stays, seen, seen_whole, no_more, faulty};
 
@@ -36,4 +38,9 @@ pub fn short_inputs()
     // a byte behind three zero bytes
     ensures stray { seen_whole (0 ∷ 0 ∷ 1 ∷ 9 ∷ 16 ∷ 0 ∷ 0 ∷ 0 ∷ 2 ∷ [])
         ≡ record { units = (9 ∷ 16 ∷ []) ∷ []; fault = Some NoStart } }
+{}
+
+/// After SliceQPY 40, an mb_qp_delta of 25 gives 13: the quantiser goes round at 52.
+pub fn quantiser_goes_round()
+    ensures { (mb : Mb) → mb.qp_delta ≡ pos 25 → qp_of 40 (mb ∷ []) 0 ≡ pos 13 }
 {}

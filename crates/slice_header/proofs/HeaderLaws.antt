@@ -11,6 +11,7 @@ use Rattle.exp_golomb.specs.Syntax.{Found}
 use Rattle.exp_golomb.proofs.Fronts.{both, in_ue}
 use Rattle.exp_golomb.proofs.Syntaxes.{one_outcome}
 use Rattle.h264_types.specs.declared.layer.Layer.{Layer}
+use Rattle.h264_types.specs.SliceShape.{IsSliceShape}
 use Rattle.param_sets.proofs.Spelled.{same_found, ue_most}
 use Rattle.param_sets.specs.PpsCodes.{mode_flag_of}
 use Rattle.param_sets.specs.SequenceParameterSet.{width_of, height_of}
@@ -18,7 +19,7 @@ use Rattle.param_sets.specs.Sets.{SetMaps}
 use Rattle.param_sets.specs.SpsCodes.{IsSps}
 use Rattle.slice_header.specs.Refusal.{Refusal}
 use Rattle.slice_header.specs.When.{IsInWhen}
-use Rattle.slice_header.specs.Shape.{IsSliceShape, shape_of}
+use Rattle.slice_header.specs.Shape.{shape_of}
 use Rattle.slice_header.specs.SliceHeader.{Active, slice_header, is_i, is_qp, slice_qp_y, has_init}
 use Rattle.slice_header.specs.HeaderCodes.{HeaderFits, HeaderText, IsAllowed, IsRefusedHeader, Names, active_in, header_in, header_text, unconstrained}
 use Rattle.slice_header.specs.declared.header.Header.{Header}

@@ -1,8 +1,8 @@
 -- What the macroblocks of a slice rest on beside one another (ITU-T H.264, 7.4.2.1.1, 7.4.3 and 9.3.1.1).
-use Rattle.std.specs.Prelude.{◌≡◌, ◌≤◌, ◌⊎◌, false, ℕ, ◌+◌, ◌*◌, ◌/◌, ◌%◌, ◌==◌, Bool, true, not, ◌&&◌, [], ◌∷◌, unsigned_abs, if◌then◌else◌}
-use Rattle.slice_header.specs.declared.slice_types.SliceKind.{SliceKind}
-use Rattle.slice_header.specs.declared.slice_types.SliceKind.TheVariants.{I, P, B}
-use Rattle.slice_header.specs.declared.slice_types.SliceShape.{SliceShape}
+use Rattle.std.specs.Prelude.{ℕ, ◌+◌, ◌*◌, ◌/◌, ◌%◌, ◌==◌, Bool, not, ◌&&◌, [], ◌∷◌, unsigned_abs, if◌then◌else◌}
+use Rattle.h264_types.specs.declared.slice_shape.SliceKind.{SliceKind}
+use Rattle.h264_types.specs.declared.slice_shape.SliceKind.TheVariants.{I, P, B}
+use Rattle.h264_types.specs.declared.slice_shape.SliceShape.{SliceShape}
 use Rattle.param_sets.specs.SequenceParameterSet.{width_of, height_of}
 use Rattle.slice_header.specs.SliceHeader.{Active, is_i, slice_qp_y}
 use Rattle.slice_header.specs.declared.header.Header.{Header}
@@ -44,18 +44,3 @@ shape_of active h =
       qp = unsigned_abs (slice_qp_y active.pps h.slice_qp_delta);
       column = column_of h;
     }
-
--- all but the column, on which the contexts of CABAC alone rest
-abbrev pub without_column : SliceShape → SliceShape
-without_column shape = record shape { column = 0 }
-
--- A picture of Main or High within the limits. One of pairs is a frame of whole pairs, and a slice of it begins with the
--- top of one.
-pub record IsSliceShape (shape : SliceShape) : Type 0 where
-  pub some : (1 ≤ shape.width) × (1 ≤ shape.height)
-  pub width : shape.width ≤ 1055
-  pub size : shape.width * shape.height ≤ 139264
-  pub pairs : shape.mbaff ≡ true → (shape.field_pic ≡ false) × (shape.height % 2 ≡ 0) × (shape.first % 2 ≡ 0)
-  pub profile : (shape.profile ≡ 77) ⊎ (shape.profile ≡ 100)
-  pub qp : shape.qp ≤ 51
-  pub column : shape.column ≤ 3

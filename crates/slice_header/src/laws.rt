@@ -1,11 +1,12 @@
 //! What the layers above rest on: the text of a header is its own, and stays a text under another layer and number.
 ghost use Rattle.std.specs.Prelude.{◌≡◌, ◌<◌, ℕ, List, Bool, ◌++◌};
 ghost use Rattle.h264_types.specs.declared.layer.Layer.{Layer};
+ghost use Rattle.h264_types.specs.SliceShape.{IsSliceShape, without_column};
 ghost use Rattle.param_sets.specs.Sets.{SetMaps};
 ghost use Rattle.param_sets.specs.SpsCodes.{IsSps};
 ghost use Rattle.slice_header.specs.HeaderCodes.{HeaderFits, HeaderText, IsAllowed, IsRefusedHeader, Names, active_in, header_in, header_text, unconstrained};
 ghost use Rattle.slice_header.specs.Refusal.{Refusal};
-ghost use Rattle.slice_header.specs.Shape.{IsSliceShape, shape_of, without_column};
+ghost use Rattle.slice_header.specs.Shape.{shape_of};
 ghost use Rattle.slice_header.specs.SliceHeader.{Active};
 ghost use Rattle.slice_header.specs.declared.header.Header.{Header};
 

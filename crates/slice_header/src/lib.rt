@@ -14,7 +14,6 @@ mod read_marking;
 mod read_parts;
 mod read_start_text;
 mod slice_shape;
-mod slice_types;
 mod write_element;
 mod write_header_text;
 mod write_marking;
@@ -26,7 +25,6 @@ pub use header::{Header, MemoryManagement};
 pub use read_header_text::read_header;
 pub use read_start_text::read_start;
 pub use slice_shape::shape;
-pub use slice_types::{SliceKind, SliceShape};
 pub use write_header_text::write_header;
 
 #[cfg(test)]

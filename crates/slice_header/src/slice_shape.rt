@@ -11,8 +11,8 @@ use crate::active_sets::ActiveSets;
 use crate::header::Header;
 use crate::read_header_text::is_i_slice;
 use crate::read_parts::slice_qp_y_of;
-use crate::slice_types::{SliceKind, SliceShape};
 use crate::write_header_text::sets_of;
+use h264_types::{SliceKind, SliceShape};
 use param_sets::{Sets, Sps};
 
 /// The type of a slice (Table 7-6).
@@ -79,7 +79,9 @@ fn first_mb_address(active: &ActiveSets<'_>, h: &Header) -> u32
 /// An I slice has no active references.
 pub fn shape(sets: &Sets, h: &Header) -> SliceShape
     requires { IsUnder sets.now h.now }
-    ensures { (active : Active) → Names sets.now h.now.pic_parameter_set_id active → result ≡ shape_of active h.now }
+    ensures shape { (active : Active) → Names sets.now h.now.pic_parameter_set_id active → result ≡ shape_of active h.now }
+    // The sequence parameter set that the header names is inside the profile and the limits.
+    ensures in_range { (active : Active) → Names sets.now h.now.pic_parameter_set_id active → IsSps active.sps }
 {
     let active = sets_of(sets, h);
     shape_under(&active, h)

@@ -1,6 +1,6 @@
 use super::*;
 use exp_golomb::{BitSink, BitVec, SliceBits};
-use h264_types::Layer;
+use h264_types::{Layer, SliceKind};
 use param_sets::{Sets, read_pps, read_sps};
 use std::alloc::Global;
 use std::test::Fail;
