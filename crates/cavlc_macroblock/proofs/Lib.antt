@@ -1,0 +1,9 @@
+pub mod Firsts
+pub mod ResidualLaws
+pub mod Chain
+pub mod ResidualChain
+pub mod LayerChain
+pub mod Unique
+pub mod CountLaws
+pub mod ElementLaws
+pub mod BeyondLaws

@@ -1,0 +1,20 @@
+//! What the layers above rest on: neighbours are found among what stands before, and by it alone.
+ghost use Rattle.std.specs.Prelude.{◌≡◌, ℕ, ◌<◌, Bool, Some, List, ◌++◌};
+ghost use Rattle.h264_types.specs.declared.macroblock.Mb.{Mb};
+ghost use Rattle.h264_types.specs.declared.slice_shape.SliceShape.{SliceShape};
+ghost use Rattle.mb_neighbours.specs.declared.place.At.{At};
+ghost use Rattle.mb_neighbours.specs.declared.place.Spot.{Spot};
+ghost use Rattle.mb_neighbours.specs.Place.{IsPlace};
+ghost use Rattle.mb_neighbours.specs.Near.{HasPairsBefore, IsBefore, above_of, left_of};
+
+/// The answer on a list that has the pairs before is the answer on each of its continuations.
+pub fn the_list_before_is_enough()
+    ensures left { (shape : SliceShape) (done rest : List Mb) (at : ℕ) (field : Bool) (place : At) → HasPairsBefore shape done at → left_of shape (done ++ rest) at field place ≡ left_of shape done at field place }
+    ensures above { (shape : SliceShape) (done rest : List Mb) (at : ℕ) (field : Bool) (place : At) → 0 < shape.width → HasPairsBefore shape done at → above_of shape (done ++ rest) at field place ≡ above_of shape done at field place }
+{}
+
+/// A neighbour is in an earlier macroblock, or an earlier block of the same one.
+pub fn neighbours_are_before()
+    ensures left { (shape : SliceShape) (mbs : List Mb) (at : ℕ) (field : Bool) (place : At) (found : Spot) → IsPlace place → left_of shape mbs at field place ≡ Some found → IsBefore found at place }
+    ensures above { (shape : SliceShape) (mbs : List Mb) (at : ℕ) (field : Bool) (place : At) (found : Spot) → 0 < shape.width → IsPlace place → above_of shape mbs at field place ≡ Some found → IsBefore found at place }
+{}

@@ -1,0 +1,54 @@
+ghost use Rattle.std.specs.Prelude.{◌≡◌, ◌<◌, ◌≤◌, IfSome};
+ghost use Rattle.h264_types.specs.Slice.{IsInPicture};
+ghost use Rattle.mb_neighbours.specs.Place.{IsPlace, count_of, number_of};
+ghost use Rattle.mb_neighbours.specs.Near.{HasPairsBefore, IsBefore, left_of, above_of};
+
+use crate::pairs::{in_left_pair, in_pair_above};
+use crate::place::{At, Spot};
+use crate::rows::{in_row_above, left_in_row};
+use h264_types::{Mb, SliceShape};
+
+/// The macroblock and block to the left of a place of macroblock `at`, neighbour A of 6.4.11. None where the slice
+/// has none there.
+///
+/// `at` is a number in the slice, the first macroblock being 0. `done` begins the slice's macroblocks; it is looked
+/// into in MBAFF alone, for the pair flags before the pair of `at`. `field` is the pair flag that counts for `at`,
+/// false outside MBAFF.
+pub fn left(shape: &SliceShape, done: &[Mb], at: u32, field: bool, place: At) -> Option<Spot>
+    requires picture { IsInPicture shape.now at }
+    requires done { HasPairsBefore shape.now done.now at }
+    requires place { IsPlace place }
+    ensures value { result ≡ left_of shape.now done.now at field place }
+    ensures before { IfSome result (λ found. IsBefore found at place) }
+    ensures block { IfSome result (λ found. found.block < count_of place) }
+{
+    let x = place.x();
+    if x > 0 {
+        Some(place.spot(at, x - 1, place.y()))
+    } else if shape.mbaff {
+        in_left_pair(shape, done, at, field, place)
+    } else {
+        left_in_row(shape, at, place)
+    }
+}
+
+/// The macroblock and block above a place of macroblock `at`, neighbour B of 6.4.11. None where the slice has none
+/// there. The arguments are those of [`left`]. In MBAFF a frame macroblock at the bottom of its pair answers the top,
+/// which `done` need not have.
+pub fn above(shape: &SliceShape, done: &[Mb], at: u32, field: bool, place: At) -> Option<Spot>
+    requires picture { IsInPicture shape.now at }
+    requires done { HasPairsBefore shape.now done.now at }
+    requires place { IsPlace place }
+    ensures value { result ≡ above_of shape.now done.now at field place }
+    ensures before { IfSome result (λ found. IsBefore found at place) }
+    ensures block { IfSome result (λ found. found.block < count_of place) }
+{
+    let y = place.y();
+    if y > 0 {
+        Some(place.spot(at, place.x(), y - 1))
+    } else if shape.mbaff {
+        in_pair_above(shape, done, at, field, place)
+    } else {
+        in_row_above(shape, at, place)
+    }
+}
