@@ -1,0 +1,6 @@
+pub mod Strings
+pub mod CodeSteps
+pub mod Numbers
+pub mod Spelling
+pub mod OneString
+pub mod ElementStrings

@@ -1,0 +1,4 @@
+pub mod BinString
+pub mod Codes
+pub mod MacroblockType
+pub mod Elements

@@ -1,0 +1,5 @@
+pub mod Cells
+pub mod Neighbours
+pub mod Segments
+pub mod StartingStates
+pub mod Steps

@@ -1,0 +1,14 @@
+use Rattle.std.proofs.Common.{refl, subst}
+use Rattle.std.proofs.lemmas.Result.{on_ok_weaker}
+use Rattle.cabac_interval.specs.Interval.{terminate}
+use Rattle.cabac_engine.specs.Bins.{at_end}
+use Rattle.cabac_contexts.specs.Coders.{OutCoding, TakesBin}
+use Rattle.cabac_contexts.proofs.Cells.{takes_plain}
+use Rattle.cabac_contexts.proofs.out_coder.OutCoderBinSink.end.Goals as goal
+
+pub returns-clause-step : goal.returns-clause-step
+returns-clause-step g c =
+    on_ok_weaker c.end.result
+    (λ encodes. subst (λ (old : OutCoding). TakesBin old at_end c.args.bit (record { encoder = c.end.new.self; cells = c.self.inside.contexts })) c.self.view_is
+    (takes_plain (record { encoder = c.self.inside.encoder; cells = c.self.inside.contexts }) c.end.new.self at_end terminate c.args.bit (λ n. refl) (λ start bins. refl) encodes))
+    c.end.ensures.bin

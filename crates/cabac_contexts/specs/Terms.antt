@@ -1,0 +1,71 @@
+-- condTermFlagA and condTermFlagB (9.3.3.1.1): what the macroblocks and blocks to the left and above say of a bin's context.
+-- `done` is the list of the slice's macroblocks before number `at`, which is `mb`, as far as it was read.
+use Rattle.std.specs.Prelude.{ℕ, ◌/◌, ◌<◌, ◌==◌, Bool, not, ◌&&◌, ◌||◌, if◌then◌else◌, ℤ, pos, List, [], slice_get, slice_index_or, Option, Some, None}
+use Rattle.std.specs.Int.{bit_at}
+use Rattle.std.specs.List.{list_any}
+use Rattle.std.specs.Option.{option_map_or}
+use Rattle.std.specs.Ordering.{int_eq}
+use Rattle.h264_types.specs.Kind.{is_intra, is_i_nxn, is_i_16x16, is_i_pcm, is_skip}
+use Rattle.h264_types.specs.Macroblock.{luma_block, pattern_of}
+use Rattle.h264_types.specs.declared.macroblock.Mb.{Mb}
+use Rattle.h264_types.specs.declared.slice_shape.SliceShape.{SliceShape}
+use Rattle.mb_neighbours.specs.Near.{left_of, above_of}
+use Rattle.mb_neighbours.specs.declared.place.At.{At}
+use Rattle.mb_neighbours.specs.declared.place.Spot.{Spot}
+use Rattle.cabac_contexts.specs.declared.term.Term.{Term}
+use Rattle.cabac_contexts.specs.declared.term.Term.TheVariants.{OtherType, ChromaMode, Transform8, NoLuma, Chroma, ChromaAc, LumaDcFlag, LumaFlag, ChromaDcFlag, ChromaAcFlag}
+
+-- the pattern has a bit for a luma quarter
+abbrev pub has_luma : Mb → ℕ → Bool
+has_luma mb quarter = bit_at (pattern_of mb).luma quarter == 1
+
+abbrev pub has_level : List ℤ → Bool
+has_level levels = list_any (λ level. not (int_eq level (pos 0))) levels
+
+abbrev pub chroma_dc_of : Mb → ℕ → List ℤ
+chroma_dc_of mb component = slice_index_or mb.chroma_dc component []
+
+abbrev pub chroma_ac_of : Mb → ℕ → ℕ → List ℤ
+chroma_ac_of mb component block = slice_index_or (slice_index_or mb.chroma_ac component []) block []
+
+-- what a macroblock, or a block of it, says
+abbrev pub term_of : Term → Mb → ℕ → Bool
+term_of OtherType mb block = not (is_i_nxn mb.kind)
+term_of ChromaMode mb block = is_intra mb.kind && not (is_i_pcm mb.kind) && not (mb.chroma_mode == 0)
+term_of Transform8 mb block = mb.t8
+term_of NoLuma mb quarter = not (is_i_pcm mb.kind) && (is_skip mb.kind || not (has_luma mb quarter))
+term_of Chroma mb block = is_i_pcm mb.kind || (not (is_skip mb.kind) && not ((pattern_of mb).chroma == 0))
+term_of ChromaAc mb block = is_i_pcm mb.kind || (not (is_skip mb.kind) && (pattern_of mb).chroma == 2)
+-- coded_block_flag: I_PCM counts as coded, and a luma block of the 8x8 transform with its quarter's bit
+term_of LumaDcFlag mb block = is_i_pcm mb.kind || (is_i_16x16 mb.kind && has_level mb.dc)
+term_of LumaFlag mb block = is_i_pcm mb.kind || (has_luma mb (block / 4) && (mb.t8 || has_level (luma_block mb block)))
+term_of (ChromaDcFlag component) mb block = is_i_pcm mb.kind || (not ((pattern_of mb).chroma == 0) && has_level (chroma_dc_of mb component))
+term_of (ChromaAcFlag component) mb block = is_i_pcm mb.kind || ((pattern_of mb).chroma == 2 && has_level (chroma_ac_of mb component block))
+
+-- how many blocks of a macroblock have an answer of their own
+abbrev pub blocks_of : Term → ℕ
+blocks_of NoLuma = 4
+blocks_of LumaFlag = 16
+blocks_of (ChromaAcFlag component) = 4
+blocks_of _ = 1
+
+abbrev pub HasComponent : Term → Type 0
+HasComponent (ChromaDcFlag component) = component < 2
+HasComponent (ChromaAcFlag component) = component < 2
+HasComponent _ = Unit {0}
+
+-- macroblock k of the slice
+abbrev pub macroblock_at : List Mb → ℕ → Mb → ℕ → Option Mb
+macroblock_at done at mb k = if k == at then Some mb else slice_get done k
+
+-- the term of a neighbour, `missing` where it isn't available
+abbrev pub flag_at : Bool → Term → List Mb → ℕ → Mb → Option Spot → Bool
+flag_at missing term done at mb None = missing
+flag_at missing term done at mb (Some spot) = option_map_or (λ found. term_of term found spot.block) (macroblock_at done at mb spot.mb) missing
+
+-- condTermFlagA and condTermFlagB of a place of the current macroblock, whose pair flag is `field`
+abbrev pub flag_a : Bool → Term → SliceShape → List Mb → ℕ → Bool → Mb → At → Bool
+flag_a missing term shape done at field mb place = flag_at missing term done at mb (left_of shape done at field place)
+
+abbrev pub flag_b : Bool → Term → SliceShape → List Mb → ℕ → Bool → Mb → At → Bool
+flag_b missing term shape done at field mb place = flag_at missing term done at mb (above_of shape done at field place)

@@ -1,0 +1,151 @@
+ghost use Rattle.std.specs.Prelude.{◌≡◌, ◌<◌, ◌≤◌, length};
+ghost use Rattle.h264_types.specs.Slice.{IsInPicture};
+ghost use Rattle.mb_neighbours.specs.Place.{IsPlace, count_of};
+ghost use Rattle.cabac_contexts.specs.Terms.{HasComponent, blocks_of};
+ghost use Rattle.cabac_contexts.specs.Increments as inc;
+
+use crate::term::{Term, flags};
+use h264_types::{Mb, SliceShape};
+use mb_neighbours::At;
+
+/// The increment of the first bin of mb_type in an I slice, 0 to 2 (9.3.3.1.1.3).
+///
+/// For this call and those below: `done` has the macroblocks of the slice before number `at`; `mb` is the current one, as far
+/// as it was read; `field` is its pair flag, false outside MBAFF.
+pub fn ctx_inc_type_i(shape: &SliceShape, done: &[Mb], at: u32, field: bool, mb: &Mb) -> u8
+    requires picture { IsInPicture shape.now at }
+    requires done { at ≤ length done.now }
+    ensures value { result ≡ inc.type_i shape.now done.now at field mb.now }
+    ensures bound { result < 3 }
+{
+    let place = At::Whole;
+    sum(flags(shape, done, at, field, mb, place, Term::OtherType, false))
+}
+
+/// The increment of the first bin of intra_chroma_pred_mode, 0 to 2 (9.3.3.1.1.8).
+pub fn ctx_inc_chroma_mode(shape: &SliceShape, done: &[Mb], at: u32, field: bool, mb: &Mb) -> u8
+    requires picture { IsInPicture shape.now at }
+    requires done { at ≤ length done.now }
+    ensures value { result ≡ inc.chroma_mode shape.now done.now at field mb.now }
+    ensures bound { result < 3 }
+{
+    let place = At::Whole;
+    sum(flags(shape, done, at, field, mb, place, Term::ChromaMode, false))
+}
+
+/// The increment of the first bin of mb_qp_delta, 0 or 1: whether the macroblock before in the slice sent an
+/// mb_qp_delta other than 0 (9.3.3.1.1.5).
+pub fn ctx_inc_qp_delta(_shape: &SliceShape, done: &[Mb], at: u32, _field: bool, _mb: &Mb) -> u8
+    requires { at ≤ length done.now }
+    ensures value { result ≡ inc.qp_delta done.now at }
+    ensures bound { result < 2 }
+{
+    if at == 0 {
+        return 0;
+    }
+    u8::from(done[at as usize - 1].qp_delta != 0)
+}
+
+/// The increment of transform_size_8x8_flag, 0 to 2 (9.3.3.1.1.10).
+pub fn ctx_inc_t8(shape: &SliceShape, done: &[Mb], at: u32, field: bool, mb: &Mb) -> u8
+    requires picture { IsInPicture shape.now at }
+    requires done { at ≤ length done.now }
+    ensures value { result ≡ inc.t8 shape.now done.now at field mb.now }
+    ensures bound { result < 3 }
+{
+    let place = At::Whole;
+    sum(flags(shape, done, at, field, mb, place, Term::Transform8, false))
+}
+
+/// The increment of the bin of a luma quarter in coded_block_pattern, 0 to 3 (9.3.3.1.1.4). `mb` has the bits of the quarters
+/// before.
+pub fn ctx_inc_luma(
+    shape: &SliceShape,
+    done: &[Mb],
+    at: u32,
+    field: bool,
+    mb: &Mb,
+    quarter: u8,
+) -> u8
+    requires picture { IsInPicture shape.now at }
+    requires done { at ≤ length done.now }
+    requires quarter { quarter < 4 }
+    ensures value { result ≡ inc.luma shape.now done.now at field mb.now quarter }
+    ensures bound { result < 4 }
+{
+    let place = At::Luma8(quarter);
+    weighted(flags(shape, done, at, field, mb, place, Term::NoLuma, false))
+}
+
+/// The increment of the first or the second bin of chroma in coded_block_pattern, 0 to 3 (9.3.3.1.1.4).
+pub fn ctx_inc_chroma(
+    shape: &SliceShape,
+    done: &[Mb],
+    at: u32,
+    field: bool,
+    mb: &Mb,
+    second: bool,
+) -> u8
+    requires picture { IsInPicture shape.now at }
+    requires done { at ≤ length done.now }
+    ensures value { result ≡ inc.chroma shape.now done.now at field mb.now second }
+    ensures bound { result < 4 }
+{
+    let term = if second { Term::ChromaAc } else { Term::Chroma };
+    weighted(flags(shape, done, at, field, mb, At::Whole, term, false))
+}
+
+/// The increment of coded_block_flag, 0 to 3 (9.3.3.1.1.9), for `cat` (ctxBlockCat) 0 to 4: luma DC, luma AC, luma, chroma DC,
+/// chroma AC. `comp` is 1 for Cr and else 0. `block` is the number of a 4x4 block of luma or chroma, and 0 for DC levels.
+/// `mb` has its pattern and the levels of the blocks before.
+pub fn ctx_inc_block(
+    shape: &SliceShape,
+    done: &[Mb],
+    at: u32,
+    field: bool,
+    mb: &Mb,
+    cat: u8,
+    comp: u8,
+    block: u8,
+) -> u8
+    requires picture { IsInPicture shape.now at }
+    requires done { at ≤ length done.now }
+    requires block { inc.IsBlock cat comp block }
+    ensures value { result ≡ inc.coded_block shape.now done.now at field mb.now cat comp block }
+    ensures bound { result < 4 }
+{
+    let (place, term) = block_place(cat, comp, block);
+    let missing = mb.kind.is_intra();
+    weighted(flags(shape, done, at, field, mb, place, term, missing))
+}
+
+/// Where a block stands, and what its neighbours are asked.
+fn block_place(cat: u8, comp: u8, block: u8) -> (At, Term)
+    requires { inc.IsBlock cat comp block }
+    ensures place { result.0 ≡ inc.place_of cat block }
+    ensures term { result.1 ≡ inc.flag_of cat comp }
+    ensures is_place { IsPlace result.0 }
+    ensures blocks { count_of result.0 ≤ blocks_of result.1 }
+    ensures component { HasComponent result.1 }
+{
+    match cat {
+        0 => (At::Whole, Term::LumaDcFlag),
+        1 | 2 => (At::Luma4(block), Term::LumaFlag),
+        3 => (At::Whole, Term::ChromaDcFlag(comp)),
+        _ => (At::Chroma4(block), Term::ChromaAcFlag(comp)),
+    }
+}
+
+/// condTermFlagA + condTermFlagB
+fn sum(flags: (bool, bool)) -> u8
+    ensures { result ≡ inc.sum flags.0 flags.1 }
+{
+    u8::from(flags.0) + u8::from(flags.1)
+}
+
+/// condTermFlagA + 2 * condTermFlagB
+fn weighted(flags: (bool, bool)) -> u8
+    ensures { result ≡ inc.weighted flags.0 flags.1 }
+{
+    u8::from(flags.0) + 2 * u8::from(flags.1)
+}

@@ -1,0 +1,350 @@
+ghost use Rattle.std.specs.Prelude.{◌≡◌, ◌<◌, ◌≤◌, false, length, OnOk, OnSome};
+ghost use Rattle.cabac_contexts.specs.Increments.{IsBlock};
+
+use super::*;
+use cabac_engine::{BinSink, BinSource, Decoder, Encoder};
+use exp_golomb::{BitSink, BitVec, SliceBits};
+use h264_types::{Mb, MbKind, Pattern, SliceKind, SliceShape};
+use init_table::InitTable;
+use std::alloc::{AllocError as Memory, Global};
+use std::test::Fail;
+
+/// The table that has these four pairs for each context.
+fn table(alloc: Global, pairs: &str) -> Result<Option<InitTable>, Memory> {
+    let mut text = String::new(alloc);
+    for _ctx in 0..460 {
+        text.push_str(pairs)?;
+    }
+    Ok(InitTable::of(text.as_str()).ok())
+}
+
+/// A column, SliceQP, and the state that each context starts with.
+#[test]
+fn contexts_start_by_their_pairs(rt: HostRuntime) -> Result<(), Fail> {
+    match table(rt.alloc(), "0 64 20 -15 -28 127 -128 -128 ")? {
+        None => assert!(rt; false),
+        Some(init) => {
+            for (column, qp, p, mps) in [
+                (0, 0, 0, true),
+                (0, 51, 0, true),
+                (1, 26, 46, false),
+                (1, 51, 15, false),
+                (2, 51, 26, false),
+                (2, 0, 62, true),
+                (3, 30, 62, false),
+            ] {
+                assert!(rt; qp <= 51 && column < 4);
+                let contexts = Contexts::start(&init, qp, column);
+                for ctx in [0, 11, 459] {
+                    assert!(rt; ctx < 460);
+                    let cell = contexts.cell(ctx);
+                    assert_eq!(rt; (cell.p, cell.mps), (p, mps), "column {column}, QP {qp}");
+                }
+            }
+        }
+    }
+    Ok(())
+}
+
+/// Seven bins of two contexts and the other kinds.
+fn put_bins<S: BinSink>(s: &mut S) -> Result<(), Memory>
+    requires { S.over s.old ≡ false }
+    ensures { OnOk result (S.over s.new ≡ false) }
+{
+    s.bin(11, true)?;
+    s.bin(11, false)?;
+    s.bin(459, true)?;
+    s.bypass(true)?;
+    s.end(false)?;
+    s.bin(11, true)?;
+    s.bin(459, false)?;
+    Ok(())
+}
+
+/// The bins of these kinds from a source.
+fn take_bins<S: BinSource>(s: &mut S) -> Option<[bool; 7]>
+    requires { S.over s.old ≡ false }
+    ensures { OnSome result (S.over s.new ≡ false) }
+{
+    let first = s.bin(11)?;
+    let second = s.bin(11)?;
+    let third = s.bin(459)?;
+    let bypass = s.bypass()?;
+    let end = s.end()?;
+    if end {
+        return None;
+    }
+    let fourth = s.bin(11)?;
+    let last = s.bin(459)?;
+    Some([first, second, third, bypass, end, fourth, last])
+}
+
+fn filled(bits: BitVec) -> Result<Option<Vec<u8>>, Memory> {
+    let mut bits = bits;
+    for _i in 0..7 {
+        if !bits.aligned() {
+            bits.put(false)?;
+        }
+    }
+    if bits.aligned() {
+        Ok(Some(bits.into_bytes()))
+    } else {
+        Ok(None)
+    }
+}
+
+#[test]
+fn bins_come_back_with_their_contexts(rt: HostRuntime) -> Result<(), Fail> {
+    let Ok(init) = InitTable::of("flat") else {
+        assert!(rt; false);
+        return Ok(());
+    };
+    let encoder = Encoder::start(rt.alloc(), BitVec::new(rt.alloc()));
+    let mut out = OutCoder::new(Contexts::start(&init, 26, 0), encoder);
+    put_bins(&mut out)?;
+    out.end(true)?;
+    let (written, bits) = out.close()?;
+    let Some(bytes) = filled(bits)? else {
+        assert!(rt; false);
+        return Ok(());
+    };
+    match Decoder::start(SliceBits::new(bytes.as_slice())) {
+        Err(_) => assert!(rt; false),
+        Ok(decoder) => {
+            let mut coder = InCoder::new(Contexts::start(&init, 26, 0), decoder);
+            let bins = take_bins(&mut coder);
+            assert_eq!(rt; bins, Some([true, false, true, true, false, true, false]));
+            if bins.is_some() {
+                assert_eq!(rt; coder.end(), Some(true));
+            }
+            let (read, _bits) = coder.into_parts();
+            // up by a most probable value, down by another one; and context 0 has no bin
+            for (ctx, p, mps) in [(11, 1, true), (459, 0, true), (0, 0, true)] {
+                assert!(rt; ctx < 460);
+                let cells = (written.cell(ctx), read.cell(ctx));
+                assert_eq!(rt; (cells.0.p, cells.0.mps), (p, mps));
+                assert_eq!(rt; (cells.1.p, cells.1.mps), (p, mps));
+            }
+        }
+    }
+    Ok(())
+}
+
+/// Three macroblocks in a row, of which number 4 has number 3 to the left and number 1 above.
+fn shape() -> SliceShape
+    ensures width { result.width ≡ 3 }
+    ensures height { result.height ≡ 3 }
+    ensures first { result.first ≡ 0 }
+{
+    SliceShape {
+        kind: SliceKind::I,
+        width: 3,
+        height: 3,
+        first: 0,
+        mbaff: false,
+        field_pic: false,
+        refs: [0, 0],
+        t8_mode: true,
+        direct8: true,
+        profile: 100,
+        qp: 26,
+        column: 0,
+    }
+}
+
+fn macroblock(kind: MbKind, luma: u8, chroma: u8) -> Mb {
+    let mut mb = Mb::without_elements(kind);
+    mb.pattern = Pattern { luma, chroma };
+    mb
+}
+
+/// The four macroblocks before number 4.
+fn before(alloc: Global, left: &Mb, above: &Mb) -> Result<Vec<Mb>, Memory> {
+    let mut done = Vec::new(alloc);
+    for number in 0..4 {
+        done.push(match number {
+            1 => *above,
+            3 => *left,
+            _ => Mb::without_elements(MbKind::Skip),
+        })?;
+    }
+    Ok(done)
+}
+
+/// The kinds to the left and above, and the increments of mb_type and of the chroma bins.
+#[test]
+fn increments_by_kinds_and_patterns(rt: HostRuntime) -> Result<(), Fail> {
+    let pcm = Mb::without_elements(MbKind::Intra(25));
+    let mut none = macroblock(MbKind::Intra(0), 15, 0);
+    none.t8 = true;
+    let mut dc = macroblock(MbKind::Intra(0), 7, 1);
+    dc.chroma_mode = 3;
+    // I_16x16 with chroma AC levels and without luma ones
+    let ac = Mb::without_elements(MbKind::Intra(9));
+    let skip = Mb::without_elements(MbKind::Skip);
+    let current = Mb::without_elements(MbKind::Intra(0));
+    // mb_type, intra_chroma_pred_mode, transform flag, luma quarter 0, first and second bin of chroma
+    for (left, above, wanted) in [
+        (&none, &none, [0, 0, 2, 0, 0, 0]),
+        (&dc, &none, [0, 1, 1, 0, 1, 0]),
+        (&none, &dc, [0, 1, 1, 0, 2, 0]),
+        (&ac, &dc, [1, 1, 0, 1, 3, 1]),
+        (&dc, &ac, [1, 1, 0, 2, 3, 2]),
+        (&pcm, &ac, [2, 0, 0, 2, 3, 3]),
+        (&skip, &skip, [2, 0, 0, 3, 0, 0]),
+    ] {
+        let done = before(rt.alloc(), left, above)?;
+        assert!(rt; done.len() == 4);
+        let found = [
+            ctx_inc_type_i(&shape(), &done, 4, false, &current),
+            ctx_inc_chroma_mode(&shape(), &done, 4, false, &current),
+            ctx_inc_t8(&shape(), &done, 4, false, &current),
+            ctx_inc_luma(&shape(), &done, 4, false, &current, 0),
+            ctx_inc_chroma(&shape(), &done, 4, false, &current, false),
+            ctx_inc_chroma(&shape(), &done, 4, false, &current, true),
+        ];
+        assert_eq!(rt; found, wanted);
+    }
+    Ok(())
+}
+
+/// The quarters of the current macroblock have a bit or none, and those beside it too.
+#[test]
+fn increments_of_luma_quarters(rt: HostRuntime) -> Result<(), Fail> {
+    // quarter 1 of the left macroblock and quarter 2 of that above have a bit
+    let left = macroblock(MbKind::Intra(0), 2, 0);
+    let above = macroblock(MbKind::Intra(0), 4, 0);
+    let done = before(rt.alloc(), &left, &above)?;
+    assert!(rt; done.len() == 4);
+    // the bits so far, the quarter, its increment
+    for (luma, quarter, wanted) in [
+        (0, 0, 0),
+        (0, 1, 3),
+        (1, 1, 2),
+        (0, 2, 3),
+        (1, 2, 1),
+        (2, 3, 1),
+        (4, 3, 2),
+        (6, 3, 0),
+    ] {
+        assert!(rt; quarter < 4);
+        let current = macroblock(MbKind::Intra(0), luma, 0);
+        assert_eq!(rt;
+            ctx_inc_luma(&shape(), &done, 4, false, &current, quarter),
+            wanted,
+            "quarter {quarter}"
+        );
+        // the first macroblock has no neighbours: only its own quarters count
+        let alone = ctx_inc_luma(&shape(), &[], 0, false, &current, 0);
+        assert_eq!(rt; alone, 0);
+    }
+    Ok(())
+}
+
+#[test]
+fn increments_of_qp_delta(rt: HostRuntime) {
+    let current = Mb::without_elements(MbKind::Intra(0));
+    assert_eq!(rt; ctx_inc_qp_delta(&shape(), &[], 0, false, &current), 0);
+    let mut done = [current; 2];
+    assert_eq!(rt; ctx_inc_qp_delta(&shape(), &done, 2, false, &current), 0);
+    done[0].qp_delta = 1;
+    assert_eq!(rt; ctx_inc_qp_delta(&shape(), &done, 2, false, &current), 0);
+    done[1].qp_delta = -26;
+    assert_eq!(rt; ctx_inc_qp_delta(&shape(), &done, 2, false, &current), 1);
+}
+
+/// No neighbours: the flags of an intra macroblock count as 1, of another one as 0.
+#[test]
+fn blocks_without_neighbours(rt: HostRuntime) {
+    for (kind, wanted) in [(MbKind::Intra(3), 3), (MbKind::P(0), 0)] {
+        let current = Mb::without_elements(kind);
+        for cat in 0..5 {
+            assert_eq!(rt;
+                ctx_inc_block(&shape(), &[], 0, false, &current, cat, 0, 0),
+                wanted,
+                "category {cat}"
+            );
+        }
+    }
+}
+
+/// Macroblocks to the left and above, a block, and its increment.
+#[test]
+fn blocks_beside_others(rt: HostRuntime) -> Result<(), Fail> {
+    let pcm = Mb::without_elements(MbKind::Intra(25));
+    let skip = Mb::without_elements(MbKind::Skip);
+    // levels everywhere that a block 0 looks at, in I_NxN and in I_16x16
+    let mut full = macroblock(MbKind::Intra(0), 15, 2);
+    full.luma[1][16] = 1;
+    full.luma[2][32] = -1;
+    full.chroma_dc[0][3] = 2;
+    full.chroma_ac[1][1][14] = 5;
+    full.chroma_ac[1][2][0] = 5;
+    let mut large = full;
+    large.kind = MbKind::Intra(24);
+    large.dc[15] = -7;
+    // the same without the bits of the pattern
+    let mut dropped = full;
+    dropped.pattern = Pattern { luma: 9, chroma: 0 };
+    // all levels 0, with the 8x8 transform
+    let mut transformed = macroblock(MbKind::Intra(0), 15, 1);
+    transformed.t8 = true;
+    let current = Mb::without_elements(MbKind::Intra(0));
+    for (left, above, cat, comp, wanted) in [
+        (&pcm, &skip, 0, 0, 1),
+        (&skip, &pcm, 1, 0, 2),
+        (&pcm, &pcm, 2, 0, 3),
+        (&pcm, &skip, 3, 1, 1),
+        (&skip, &pcm, 4, 1, 2),
+        (&full, &large, 0, 0, 2),
+        (&large, &full, 0, 0, 1),
+        (&full, &large, 1, 0, 3),
+        (&full, &dropped, 2, 0, 1),
+        (&dropped, &transformed, 2, 0, 2),
+        (&full, &dropped, 3, 0, 1),
+        (&full, &large, 3, 1, 0),
+        (&transformed, &large, 3, 0, 2),
+        (&full, &large, 4, 1, 3),
+        (&full, &large, 4, 0, 0),
+        (&dropped, &transformed, 4, 1, 0),
+    ] {
+        let done = before(rt.alloc(), left, above)?;
+        assert!(rt; done.len() == 4 && cat < 5 && comp < 2);
+        assert_eq!(rt;
+            ctx_inc_block(&shape(), &done, 4, false, &current, cat, comp, 0),
+            wanted,
+            "category {cat}, component {comp}"
+        );
+    }
+    Ok(())
+}
+
+/// Blocks inside the current macroblock: 2 is to the left of 3, and 1 above it.
+#[test]
+fn blocks_inside_a_macroblock(rt: HostRuntime) {
+    let mut current = macroblock(MbKind::P(0), 1, 2);
+    let done = [current; 4];
+    assert_eq!(rt;
+        ctx_inc_block(&shape(), &done, 4, false, &current, 2, 0, 3),
+        0
+    );
+    current.luma[0][32] = 1;
+    assert_eq!(rt;
+        ctx_inc_block(&shape(), &done, 4, false, &current, 2, 0, 3),
+        1
+    );
+    current.luma[0][31] = 1;
+    assert_eq!(rt;
+        ctx_inc_block(&shape(), &done, 4, false, &current, 2, 0, 3),
+        3
+    );
+    current.chroma_ac[0][1][0] = 1;
+    assert_eq!(rt;
+        ctx_inc_block(&shape(), &done, 4, false, &current, 4, 0, 3),
+        2
+    );
+    assert_eq!(rt;
+        ctx_inc_block(&shape(), &done, 4, false, &current, 4, 1, 3),
+        0
+    );
+}

@@ -1,0 +1,2 @@
+pub mod InitTable
+pub mod TableText
