@@ -1,0 +1,35 @@
+ghost use Rattle.std.specs.Prelude.{◌≡◌};
+ghost use Rattle.cavlc_syntax.specs.declared.fault.PutFault.TheVariants.{Memory};
+
+use std::alloc::AllocError;
+use thiserror::Error;
+
+/// Why bits give no further macroblock of a slice, and no end of it.
+#[derive(Clone, Copy, Debug, PartialEq, Eq, Error)]
+pub enum SliceFault {
+    /// No list of macroblocks has the bits of the slice data as its text.
+    #[error("no macroblocks have this text")]
+    NoReading,
+    /// Behind none or more I_PCM macroblocks stands one of a type that isn't read yet.
+    #[error("macroblocks of this type are not read yet")]
+    Unbuilt,
+    /// No memory was left.
+    #[error("out of memory")]
+    Memory,
+}
+
+/// Why a macroblock wasn't written.
+#[derive(Clone, Copy, Debug, PartialEq, Eq, Error)]
+pub enum PutFault {
+    /// No memory was left.
+    #[error("out of memory")]
+    Memory,
+}
+
+impl From<AllocError> for PutFault {
+    ghost from_gives = { λ _ e. e ≡ Memory };
+
+    fn from(_e: AllocError) -> PutFault {
+        PutFault::Memory
+    }
+}

@@ -1,0 +1,346 @@
+ghost use Rattle.std.specs.Prelude.{◌≤◌};
+ghost use Rattle.cavlc_syntax.specs.SliceText.{IsBuiltShape};
+
+use super::*;
+use exp_golomb::{BitSink, BitSource, BitVec, SliceBits};
+use h264_types::{Mb, MbKind, SliceKind, SliceShape};
+use std::alloc::Global;
+use std::test::Fail;
+
+/// An I slice that begins a picture of one row.
+fn row_of(width: u32) -> SliceShape
+    requires some { 1 ≤ width }
+    requires few { width ≤ 3 }
+    ensures { IsBuiltShape result }
+{
+    SliceShape {
+        kind: SliceKind::I,
+        width,
+        height: 1,
+        first: 0,
+        mbaff: false,
+        field_pic: false,
+        refs: [0, 0],
+        t8_mode: false,
+        direct8: true,
+        profile: 77,
+        qp: 26,
+        column: 0,
+    }
+}
+
+/// Each byte so many times.
+fn bytes_of(alloc: Global, runs: &[(u16, u8)]) -> Result<Vec<u8>, Fail> {
+    let mut bytes = Vec::new(alloc);
+    for (count, byte) in runs {
+        for _i in 0..*count {
+            bytes.push(*byte)?;
+        }
+    }
+    Ok(bytes)
+}
+
+/// How many macroblocks a reader gives, and its refusal, if any.
+fn read(
+    alloc: Global,
+    shape: SliceShape,
+    bits: SliceBits<'_>,
+) -> Result<(u8, Option<SliceFault>), Fail>
+    requires { IsBuiltShape shape }
+{
+    let mut reader = CavlcReader::start(alloc, shape, bits)?;
+    for count in 0..5u8 {
+        match reader.next() {
+            Ok(Step::Mb(_)) => {}
+            Ok(Step::End) => {
+                let left = reader.into_bits().bit();
+                return Ok((count, left.map(|_| SliceFault::Memory)));
+            }
+            Err(fault) => return Ok((count, Some(fault))),
+        }
+    }
+    Ok((5, None))
+}
+
+#[test]
+fn slice_data_are_read(rt: HostRuntime) -> Result<(), Fail> {
+    let none = None;
+    let no_reading = Some(SliceFault::NoReading);
+    let unbuilt = Some(SliceFault::Unbuilt);
+    // the width, the bits before the data, the bytes, and what is read
+    let rows: [(u32, u8, &[(u16, u8)], u8, Option<SliceFault>); 20] = [
+        // a header of 17 bits; its samples are 00 00 00 and 80
+        (
+            1,
+            17,
+            &[
+                (1, 0x88),
+                (1, 0x84),
+                (1, 0x86),
+                (1, 0x80),
+                (3, 0),
+                (381, 0x80),
+                (1, 0x80),
+            ],
+            1,
+            none,
+        ),
+        (
+            2,
+            0,
+            &[
+                (1, 0x0D),
+                (1, 0),
+                (384, 0x80),
+                (1, 0x0D),
+                (1, 0),
+                (384, 0),
+                (1, 0x80),
+            ],
+            2,
+            none,
+        ),
+        (
+            3,
+            0,
+            &[
+                (1, 0x0D),
+                (1, 0),
+                (384, 1),
+                (1, 0x0D),
+                (1, 0),
+                (384, 2),
+                (1, 0x0D),
+                (1, 0),
+                (384, 3),
+                (1, 0x80),
+            ],
+            3,
+            none,
+        ),
+        (3, 0, &[(1, 0x0D), (1, 0), (384, 1), (1, 0x80)], 1, none),
+        // more than the picture has room for
+        (
+            1,
+            0,
+            &[
+                (1, 0x0D),
+                (1, 0),
+                (384, 1),
+                (1, 0x0D),
+                (1, 0),
+                (384, 2),
+                (1, 0x80),
+            ],
+            1,
+            no_reading,
+        ),
+        // cut
+        (1, 0, &[], 0, no_reading),
+        (1, 0, &[(1, 0x0D)], 0, no_reading),
+        (1, 0, &[(1, 0x0D), (1, 0), (383, 0x80)], 0, no_reading),
+        (
+            2,
+            0,
+            &[
+                (1, 0x0D),
+                (1, 0),
+                (384, 0x80),
+                (1, 0x0D),
+                (1, 0),
+                (10, 0x80),
+            ],
+            1,
+            no_reading,
+        ),
+        // no stop bit, bits behind the stop bit
+        (1, 0, &[(1, 0x0D), (1, 0), (384, 0x80)], 1, no_reading),
+        (
+            1,
+            0,
+            &[(1, 0x0D), (1, 0), (384, 0x80), (1, 0)],
+            1,
+            no_reading,
+        ),
+        (
+            1,
+            0,
+            &[(1, 0x0D), (1, 0), (384, 0x80), (1, 0x80), (1, 0)],
+            1,
+            no_reading,
+        ),
+        (
+            1,
+            0,
+            &[(1, 0x0D), (1, 0), (384, 0x80), (1, 0x81)],
+            1,
+            no_reading,
+        ),
+        // an alignment bit of 1
+        (
+            1,
+            0,
+            &[(1, 0x0D), (1, 0x40), (384, 0x80), (1, 0x80)],
+            0,
+            no_reading,
+        ),
+        // mb_type 26
+        (
+            1,
+            0,
+            &[(1, 0x0D), (1, 0x80), (384, 0x80), (1, 0x80)],
+            0,
+            no_reading,
+        ),
+        // mb_type 0 and 3, and then zero bits alone, or a 1 bit
+        (1, 0, &[(1, 0x80), (2, 0)], 0, no_reading),
+        (1, 0, &[(1, 0x20), (2, 0)], 0, no_reading),
+        (1, 0, &[(1, 0x80), (1, 0), (1, 1)], 0, unbuilt),
+        (
+            1,
+            17,
+            &[(1, 0x88), (1, 0x84), (1, 0x93), (1, 0xC0)],
+            0,
+            unbuilt,
+        ),
+        (
+            2,
+            0,
+            &[(1, 0x0D), (1, 0), (384, 0x80), (1, 0x81)],
+            1,
+            unbuilt,
+        ),
+    ];
+    for (width, before, runs, count, fault) in rows {
+        let bytes = bytes_of(rt.alloc(), runs)?;
+        let mut bits = SliceBits::new(bytes.as_slice());
+        assert!(rt; bits.skip(before));
+        assert_eq!(rt; read(rt.alloc(), row_of(width), bits)?, (count, fault));
+    }
+    Ok(())
+}
+
+/// The data of a slice, read and written again.
+fn copied<B: BitSource, K: BitSink>(
+    alloc: Global,
+    shape: SliceShape,
+    source: B,
+    sink: K,
+) -> Result<Option<K>, Fail>
+    requires { IsBuiltShape shape }
+{
+    let mut reader = CavlcReader::start(alloc, shape, source)?;
+    let mut writer = CavlcWriter::start(alloc, shape, sink)?;
+    let mut mb = Mb::without_elements(MbKind::Skip);
+    for _i in 0..4u8 {
+        let Ok(more) = reader.next_into(&mut mb) else {
+            return Ok(None);
+        };
+        if !more {
+            return Ok(Some(writer.finish()?));
+        }
+        let Ok(()) = writer.put(&mb) else {
+            return Ok(None);
+        };
+    }
+    Ok(None)
+}
+
+/// The first bits of some, of which those before a place are taken.
+fn kept(alloc: Global, bits: &mut SliceBits<'_>, before: u8, kept: u8) -> Result<BitVec, Fail> {
+    let mut sink = BitVec::new(alloc);
+    for i in 0..before {
+        if let Some(bit) = bits.bit() {
+            if i < kept {
+                sink.put(bit)?;
+            }
+        }
+    }
+    Ok(sink)
+}
+
+#[test]
+fn slice_data_come_back(rt: HostRuntime) -> Result<(), Fail> {
+    // the width, the bits before the data, how many of them stand before what is written, the bytes, and those written
+    let rows: [(u32, u8, u8, &[(u16, u8)], &[(u16, u8)]); 3] = [
+        (
+            1,
+            17,
+            17,
+            &[
+                (1, 0x88),
+                (1, 0x84),
+                (1, 0x86),
+                (1, 0x80),
+                (3, 0),
+                (382, 0x80),
+            ],
+            &[
+                (1, 0x88),
+                (1, 0x84),
+                (1, 0x86),
+                (1, 0x80),
+                (3, 0),
+                (382, 0x80),
+            ],
+        ),
+        (
+            1,
+            17,
+            0,
+            &[
+                (1, 0x88),
+                (1, 0x84),
+                (1, 0x86),
+                (1, 0x80),
+                (200, 1),
+                (184, 2),
+                (1, 0x80),
+            ],
+            &[(1, 0x0D), (1, 0), (200, 1), (184, 2), (1, 0x80)],
+        ),
+        (
+            3,
+            3,
+            1,
+            &[
+                (1, 0xA1),
+                (1, 0xA0),
+                (384, 1),
+                (1, 0x0D),
+                (1, 0),
+                (384, 2),
+                (1, 0x0D),
+                (1, 0),
+                (384, 3),
+                (1, 0x80),
+            ],
+            &[
+                (1, 0x86),
+                (1, 0x80),
+                (384, 1),
+                (1, 0x0D),
+                (1, 0),
+                (384, 2),
+                (1, 0x0D),
+                (1, 0),
+                (384, 3),
+                (1, 0x80),
+            ],
+        ),
+    ];
+    for (width, before, few, runs, written) in rows {
+        let bytes = bytes_of(rt.alloc(), runs)?;
+        let mut bits = SliceBits::new(bytes.as_slice());
+        let sink = kept(rt.alloc(), &mut bits, before, few)?;
+        let Some(copy) = copied(rt.alloc(), row_of(width), bits, sink)? else {
+            return Err(Fail::from("not copied"));
+        };
+        assert!(rt; copy.aligned());
+        if copy.aligned() {
+            let wanted = bytes_of(rt.alloc(), written)?;
+            assert_eq!(rt; copy.into_bytes().as_slice(), wanted.as_slice());
+        }
+    }
+    Ok(())
+}
