@@ -6,13 +6,13 @@ use Rattle.h264_types.specs.declared.layer.Layer.{Layer}
 use Rattle.h264_types.specs.declared.fault.Why.{Why}
 use Rattle.h264_types.specs.declared.fault.Stopped.{Stopped}
 use Rattle.h264_types.specs.declared.fault.Stopped.TheVariants.{Stop as StopAt, Outside as OutsideAt, Memory as NoMemory}
-use Rattle.h264recode.specs.declared.plan.Plan.{Plan}
+use Rattle.stream_recoder.specs.declared.plan.Plan.{Plan}
 use Rattle.h264recode.specs.declared.status.Status.{Status}
 use Rattle.h264recode.specs.declared.status.Status.TheVariants.{Ok as Done, BadWords, ReadFault, WriteFault, Stop, Outside, TooMuch, Memory, ReportFault, BadTable}
-use Rattle.h264recode.specs.Items.{Item}
-use Rattle.h264recode.specs.Verdict.{Judges, Recodes}
+use Rattle.stream_recoder.specs.Items.{Item}
+use Rattle.stream_recoder.specs.Verdict.{Judges, Recodes}
 use Rattle.h264recode.specs.Run.{plan_to, judged, Leaves, IsDue, IsFault}
-use Rattle.h264recode.proofs.Judging.{judged-all}
+use Rattle.stream_recoder.proofs.Judging.{judged-all}
 use Rattle.h264recode.proofs.Told.{due-run}
 
 -- ## At most one
@@ -59,7 +59,7 @@ due-some None bound b = (BadWords, refl)
 due-some (Some layer) bound b = by all.1 all.2
   where
     all : (items : List Item) × (verdict : Option Stopped) × Recodes (plan_to layer) (judged bound b) items verdict
-    all = judged-all (plan_to layer) [] (judged bound b).units (judged bound b).fault
+    all = judged-all (plan_to layer) (judged bound b).units (judged bound b).fault
 
     by : (v : Option Stopped) → Recodes (plan_to layer) (judged bound b) all.0 v → (due : Status) × IsDue (Some layer) bound b due
     by (Some (OutsideAt unit why)) j = (Outside unit why, (all.0, j))

@@ -8,16 +8,16 @@ use Rattle.h264_types.specs.Units.{Seen, seen, seen_whole}
 use Rattle.unit_io.specs.Faults.{Rose, RoseIfFailed}
 use Rattle.unit_io.specs.declared.sink.SinkFault.{SinkFault}
 use Rattle.unit_io.specs.declared.sink.SinkFault.TheVariants.{Failed as SinkFailed, Memory as SinkMemory}
-use Rattle.h264recode.specs.declared.plan.Plan.{Plan}
+use Rattle.stream_recoder.specs.declared.plan.Plan.{Plan}
 use Rattle.h264recode.specs.declared.account.Account.{Account}
 use Rattle.h264recode.specs.declared.status.Status.{Status}
 use Rattle.h264recode.specs.declared.status.Status.TheVariants.{Ok as Done, BadWords, ReadFault, WriteFault, Stop, Outside, TooMuch, Memory, ReportFault, BadTable}
-use Rattle.h264recode.specs.Items.{Item}
-use Rattle.h264recode.specs.Verdict.{Recodes}
-use Rattle.h264recode.specs.Written.{forms, output}
+use Rattle.stream_recoder.specs.Items.{Item}
+use Rattle.stream_recoder.specs.Verdict.{Recodes}
+use Rattle.stream_recoder.specs.Written.{forms, output}
 use Rattle.h264recode.specs.Pieces.{status_of_fault}
 use Rattle.h264recode.specs.Run.{IsOver, IsPartlyWritten, EndsEarly, RunEnds}
-use Rattle.h264recode.proofs.Judging.{judged-front, before-none, output-stays}
+use Rattle.stream_recoder.proofs.Judging.{judged-front, before-none, output-stays}
 use Rattle.h264recode.proofs.Reading.{consumes-at, appends-at}
 
 appends-keeps : (a b c : Option (List ℕ)) (xs : List ℕ) → Appends a b xs → Keeps b c → Appends a c xs

@@ -1,8 +1,3 @@
-pub mod UnitForms
-pub mod Reasons
-pub mod Judging
-pub mod Units
-pub mod Pieces
 pub mod Puts
 pub mod Feeding
 pub mod Reading
@@ -10,3 +5,4 @@ pub mod Flush
 pub mod Told
 pub mod Due
 pub mod WholeLine
+pub mod Headline

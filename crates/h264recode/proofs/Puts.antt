@@ -8,13 +8,13 @@ use Rattle.stream_taps.specs.declared.event.Event.{Event}
 use Rattle.unit_io.specs.Faults.{AppendsPart}
 use Rattle.unit_io.proofs.Known.{appends-more, appends-same}
 use Rattle.h264recode.specs.declared.account.Account.{Account}
-use Rattle.h264recode.specs.declared.recoder.Recoder.{Recoder}
+use Rattle.stream_recoder.specs.declared.recoder.Recoder.{Recoder}
 use Rattle.h264recode.specs.Account.{account_of}
-use Rattle.h264recode.specs.Written.{Written, forms}
-use Rattle.h264recode.specs.Recoder.{waiting, HasRecoded, Drains}
+use Rattle.stream_recoder.specs.Written.{Written, forms}
+use Rattle.stream_recoder.specs.Recoder.{waiting, HasRecoded, Drains}
 use Rattle.h264recode.specs.Pieces.{Notes}
 use Rattle.h264recode.specs.Report.{TakesPart}
-use Rattle.h264recode.proofs.Judging.{forms-append}
+use Rattle.stream_recoder.proofs.Judging.{forms-append}
 
 -- some of what waited was written and counted
 pub record Puts (held held' : Option (List ℕ)) (old new : Recoder) (account account' : Account) : Type 0 where

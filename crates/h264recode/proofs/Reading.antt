@@ -9,19 +9,19 @@ use Rattle.h264_types.specs.declared.fault.Stopped.TheVariants.{Stop as StopAt, 
 use Rattle.h264_types.specs.Units.{Seen, seen, seen_whole}
 use Rattle.unit_io.proofs.Known.{appends-more, appends-same}
 use Rattle.stream_taps.specs.declared.event.Event.{Event}
-use Rattle.h264recode.specs.declared.plan.Plan.{Plan}
+use Rattle.stream_recoder.specs.declared.plan.Plan.{Plan}
 use Rattle.h264recode.specs.declared.account.Account.{Account}
-use Rattle.h264recode.specs.declared.recoder.Recoder.{Recoder}
+use Rattle.stream_recoder.specs.declared.recoder.Recoder.{Recoder}
 use Rattle.h264recode.specs.declared.status.Status.{Status}
 use Rattle.h264recode.specs.declared.status.Status.TheVariants.{Ok as Done, BadWords, ReadFault, WriteFault, Stop, Outside, TooMuch, Memory, ReportFault, BadTable}
 use Rattle.h264recode.specs.Account.{account_of}
-use Rattle.h264recode.specs.Items.{Item}
-use Rattle.h264recode.specs.Verdict.{Judges, Recodes}
-use Rattle.h264recode.specs.Written.{Written, all_written, forms, output}
-use Rattle.h264recode.specs.Recoder.{waiting}
+use Rattle.stream_recoder.specs.Items.{Item}
+use Rattle.stream_recoder.specs.Verdict.{Judges, Recodes}
+use Rattle.stream_recoder.specs.Written.{Written, all_written, forms, output}
+use Rattle.stream_recoder.specs.Recoder.{waiting}
 use Rattle.h264recode.specs.Pieces.{IsReady, PutsPart, PutsAll, PieceEnds, PieceDone}
 use Rattle.h264recode.specs.Run.{IsPartlyWritten, EndsEarly, RunEnds}
-use Rattle.h264recode.proofs.Judging.{forms-append}
+use Rattle.stream_recoder.proofs.Judging.{forms-append}
 
 -- some bytes were read and fed, and what is written for their units was put and counted
 pub record Reads (o : Plan) (left left' held held' : Option (List ℕ)) (r : Recoder) (account : Account) (taken : ℕ) : Type 0 where

@@ -10,22 +10,22 @@ use Rattle.h264_types.specs.declared.fault.Stopped.{Stopped}
 use Rattle.h264_types.specs.declared.fault.Stopped.TheVariants.{Stop as StopAt, Outside as OutsideAt, Memory as NoMemory}
 use Rattle.h264_types.specs.Units.{Seen, seen, seen_whole}
 use Rattle.h264_types.proofs.Stays.{seen-stays}
-use Rattle.h264recode.specs.declared.plan.Plan.{Plan}
+use Rattle.stream_recoder.specs.declared.plan.Plan.{Plan}
 use Rattle.h264recode.specs.declared.account.Account.{Account}
 use Rattle.h264recode.specs.declared.status.Status.{Status}
 use Rattle.h264recode.specs.declared.status.Status.TheVariants.{Ok as Done, BadWords, ReadFault, WriteFault, Stop, Outside, TooMuch, Memory, ReportFault, BadTable}
-use Rattle.h264recode.specs.Items.{Item}
-use Rattle.h264recode.specs.Verdict.{Judges, Recodes}
-use Rattle.h264recode.specs.Written.{output}
+use Rattle.stream_recoder.specs.Items.{Item}
+use Rattle.stream_recoder.specs.Verdict.{Judges, Recodes}
+use Rattle.stream_recoder.specs.Written.{output}
 use Rattle.h264recode.specs.Report.{Reports}
 use Rattle.h264recode.specs.Run.{plan_to, RunEnds, IsPartlyWritten, EndsEarly, Ran, IsNoReport, RunAnswers, judged, IsFront, StopsAt, Passes, Leaves, LeavesBy, IsTold, IsDue, IsFault, IsExact, IsPromptFor, IsPrompt}
-use Rattle.h264recode.proofs.Judging.{one-verdict, verdict-stays, output-same, output-front, output-stays}
+use Rattle.stream_recoder.proofs.Judging.{one-verdict, verdict-stays, output-same, output-front, output-stays}
 use Rattle.h264recode.proofs.Reading.{appends-at}
 use Rattle.h264recode.proofs.Flush.{partly}
 
 -- ## What is judged
 
-judged-all : (bound : ℕ) (b : List ℕ) → length b ≤ bound → judged bound b ≡ seen_whole b
+pub judged-all : (bound : ℕ) (b : List ℕ) → length b ≤ bound → judged bound b ≡ seen_whole b
 unfolding judged
 judged-all bound b h = let test : nat_le (length b) bound ≡ true = grind (arith, nat_tests) in ap (λ t. if t then seen_whole b else seen (take bound b)) test
 

@@ -1,11 +1,7 @@
 pub mod Account
-pub mod Forms
-pub mod Items
 pub mod Pieces
-pub mod Recoder
 pub mod Report
 pub mod Run
 pub mod Status
-pub mod Verdict
+pub mod Headline
 pub mod Words
-pub mod Written

@@ -7,16 +7,16 @@ use Rattle.h264_types.specs.Units.{Seen}
 use Rattle.stream_taps.specs.declared.event.Event.{Event}
 use Rattle.unit_io.specs.declared.sink.SinkFault.{SinkFault}
 use Rattle.unit_io.specs.declared.sink.SinkFault.TheVariants.{Failed as SinkFailed, Memory as SinkMemory}
-use Rattle.h264recode.specs.declared.plan.Plan.{Plan}
+use Rattle.stream_recoder.specs.declared.plan.Plan.{Plan}
 use Rattle.h264recode.specs.declared.account.Account.{Account}
-use Rattle.h264recode.specs.declared.recoder.Recoder.{Recoder}
+use Rattle.stream_recoder.specs.declared.recoder.Recoder.{Recoder}
 use Rattle.h264recode.specs.declared.status.Status.{Status}
 use Rattle.h264recode.specs.declared.status.Status.TheVariants.{WriteFault, Stop, Outside, Memory}
-use Rattle.h264recode.specs.Items.{Item}
-use Rattle.h264recode.specs.Verdict.{Judges, Recodes}
-use Rattle.h264recode.specs.Written.{Written, all_written, forms}
+use Rattle.stream_recoder.specs.Items.{Item}
+use Rattle.stream_recoder.specs.Verdict.{Judges, Recodes}
+use Rattle.stream_recoder.specs.Written.{Written, all_written, forms}
 use Rattle.h264recode.specs.Account.{account_of}
-use Rattle.h264recode.specs.Recoder.{HasRecoded, waiting, plan_of}
+use Rattle.stream_recoder.specs.Recoder.{HasRecoded, waiting, plan_of}
 
 -- the recoder was fed these bytes, they have no verdict yet, and all that is written for their units was drained
 pub record IsReady (r : Recoder) (o : Plan) (fed : List ℕ) (written : List Written) : Type 0 where

@@ -1,20 +1,17 @@
 //! `h264recode`: rewrites an H.264 byte stream (ITU-T H.264, annex B) from standard input to standard output for
-//! another entropy layer, and reports on standard error how that ended. Parameter sets are rewritten, the units beside
-//! them are carried, and a slice ends the run, since slices aren't read yet.
+//! another entropy layer, and reports on standard error how that ended. Parameter sets and slices are rewritten, and the
+//! units beside them are carried. Slices of I_PCM macroblocks are read so far, and written in CAVLC alone; another slice ends
+//! the run.
 //! The top call is `run::run`, and its contract is what the program promises.
 #![tactic(auto)]
 
 pub mod account;
 pub mod laws;
-pub mod plan;
-pub mod recoder;
 pub mod report;
 pub mod run;
 pub mod status;
 #[cfg(test)]
 mod tests;
-mod unit_form;
-mod unit_kind;
 pub mod words;
 
 use status::Status;

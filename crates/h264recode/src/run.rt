@@ -6,20 +6,20 @@ ghost use Rattle.h264_types.specs.Units.{seen};
 ghost use Rattle.h264recode.specs.declared.account.Account.{Account};
 ghost use Rattle.h264recode.specs.Account.{account_of};
 ghost use Rattle.h264recode.specs.Words.{words_of};
-ghost use Rattle.h264recode.specs.Written.{Written, forms};
-ghost use Rattle.h264recode.specs.Recoder.{waiting, HasRecoded};
+ghost use Rattle.stream_recoder.specs.Written.{Written, forms};
+ghost use Rattle.stream_recoder.specs.Recoder.{waiting, HasRecoded};
 ghost use Rattle.h264recode.specs.Pieces.{IsReady, PieceDone, PieceEnds, Notes, ReadsSome, status_of_fault, status_of_stop};
+ghost use Rattle.h264recode.specs.Headline.{IsHeadline};
 ghost use Rattle.h264recode.specs.Run.{RunEnds, Ran, RunAnswers, IsTold, IsExact, IsPrompt};
 ghost use Rattle.h264recode.specs.Report.{TakesPart};
 
 use crate::account::Account;
-use crate::plan::Plan;
-use crate::recoder::Recoder;
 use crate::report::write_report;
 use crate::status::Status;
 use crate::words::read_words;
 use h264_types::{Layer, Stopped};
 use std::alloc::Global;
+use stream_recoder::{Plan, Recoder};
 use stream_taps::Tap;
 use unit_io::{Failed, Sink, SinkFault, Source, put_all};
 
@@ -41,6 +41,7 @@ pub fn run<S: Source, K: Sink, E: Sink>(
     report: &mut E,
     taps: &mut Vec<Box<dyn Tap>>,
 ) -> Status
+    ensures headline { IsHeadline (words_of (map (λ word. string_bytes word) words.now)) (2 ^ 40) (S.left src.old) (S.left src.new) (K.held out.old) (K.held out.new) result }
     ensures ends { RunAnswers (words_of (map (λ word. string_bytes word) words.now)) (2 ^ 40) (S.left src.old) (S.left src.new) (K.held out.old) (K.held out.new) (E.held report.old) (E.held report.new) result }
     ensures told { IsTold (words_of (map (λ word. string_bytes word) words.now)) (2 ^ 40) (S.left src.old) (S.left src.new) (K.held out.old) (K.held out.new) result }
     ensures exact { IsExact (words_of (map (λ word. string_bytes word) words.now)) (2 ^ 40) (S.left src.old) result }
@@ -64,6 +65,7 @@ pub fn run_within<S: Source, K: Sink, E: Sink>(
     bound: u64,
 ) -> Status
     requires { bound ≤ 2 ^ 40 }
+    ensures headline { IsHeadline (words_of (map (λ word. string_bytes word) words.now)) bound (S.left src.old) (S.left src.new) (K.held out.old) (K.held out.new) result }
     ensures ends { RunAnswers (words_of (map (λ word. string_bytes word) words.now)) bound (S.left src.old) (S.left src.new) (K.held out.old) (K.held out.new) (E.held report.old) (E.held report.new) result }
     ensures told { IsTold (words_of (map (λ word. string_bytes word) words.now)) bound (S.left src.old) (S.left src.new) (K.held out.old) (K.held out.new) result }
     ensures exact { IsExact (words_of (map (λ word. string_bytes word) words.now)) bound (S.left src.old) result }

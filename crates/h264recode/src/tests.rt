@@ -1,4 +1,5 @@
 // What no clause says: the answers to known streams, and that memory suffices for them.
 
 mod runs;
+mod slices;
 mod words;

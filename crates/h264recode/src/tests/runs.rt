@@ -9,9 +9,9 @@ use std::process::Abort;
 use std::test::Fail;
 use unit_io::{CleanSink, CleanSource, Failed, MemSink, MemSource, Sink, SinkFault, Source};
 
-const CAVLC: &str = "recode --to cavlc --table flat";
+pub const CAVLC: &str = "recode --to cavlc --table flat";
 
-const CABAC: &str = "recode --to cabac --table flat";
+pub const CABAC: &str = "recode --to cabac --table flat";
 
 /// The bound of a run.
 const MOST: u64 = 1 << 40;
@@ -26,23 +26,24 @@ const CABAC_PPS: &[u8] = &[0, 0, 0, 1, 0x68, 0xEE, 0x38, 0x80];
 
 const ONE_PPS: &str = "ok units 1 slices 0 macroblocks 0 in 7 out 8\n";
 
+/// A run over an input, and what it answers, writes and reports.
 #[derive(Clone, Copy)]
-struct Row {
-    words: &'static str,
-    bound: u64,
-    input: &'static [u8],
-    status: Status,
-    output: &'static [u8],
-    report: &'static str,
+pub struct Row<'a> {
+    pub words: &'a str,
+    pub bound: u64,
+    pub input: &'a [u8],
+    pub status: Status,
+    pub output: &'a [u8],
+    pub report: &'a str,
 }
 
-const fn run_of(
-    words: &'static str,
-    input: &'static [u8],
+pub const fn run_of<'a>(
+    words: &'a str,
+    input: &'a [u8],
     status: Status,
-    output: &'static [u8],
-    report: &'static str,
-) -> Row {
+    output: &'a [u8],
+    report: &'a str,
+) -> Row<'a> {
     Row {
         words,
         bound: MOST,
@@ -53,13 +54,13 @@ const fn run_of(
     }
 }
 
-fn outside(
-    input: &'static [u8],
+pub fn outside<'a>(
+    input: &'a [u8],
     unit: u64,
     why: Why,
-    output: &'static [u8],
-    report: &'static str,
-) -> Row {
+    output: &'a [u8],
+    report: &'a str,
+) -> Row<'a> {
     run_of(CAVLC, input, Status::Outside { unit, why }, output, report)
 }
 
@@ -72,7 +73,7 @@ fn words_of(alloc: Global, line: &str) -> Result<Vec<String>, Fail> {
 }
 
 // Runs over an input that comes in pieces of so many bytes, and compares what is written and reported.
-fn expect(rt: &impl Abort, alloc: Global, row: &Row, step: usize) -> Result<(), Fail>
+pub fn expect(rt: &impl Abort, alloc: Global, row: &Row<'_>, step: usize) -> Result<(), Fail>
     requires { 0 < step }
 {
     let words = words_of(alloc, row.words)?;
@@ -152,16 +153,16 @@ fn inputs_have_their_answers(rt: HostRuntime) -> Result<(), Fail> {
         outside(
             &[0, 0, 1, 9, 0x10, 0, 0, 1, 0x65, 0x88, 0x80],
             1,
-            Why::Unbuilt,
+            Why::MissingPps(0),
             WRITTEN,
-            "outside unit 1 unbuilt\n",
+            "outside unit 1 missing pps 0\n",
         ),
         outside(
-            &[0, 0, 1, 0x41, 0x9A, 0x80],
+            &[0, 0, 1, 0x41, 0, 0, 2, 0x80],
             0,
-            Why::Unbuilt,
+            Why::Escape,
             &[],
-            "outside unit 0 unbuilt\n",
+            "outside unit 0 escape\n",
         ),
         Row {
             bound: 4,

@@ -1,6 +1,6 @@
 use Rattle.std.proofs.Common.{◌∙◌, arith, refl}
 use Rattle.std.proofs.lemmas.Result.{err_from_is_err_and}
-use Rattle.h264recode.specs.Written.{Written}
+use Rattle.stream_recoder.specs.Written.{Written}
 use Rattle.h264recode.proofs.Puts.{puts-none, puts-one, puts-part}
 use Rattle.h264recode.proofs.run.put_waiting.Goals as goal
 

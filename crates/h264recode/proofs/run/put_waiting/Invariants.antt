@@ -1,5 +1,5 @@
 use Rattle.std.proofs.Common.{◌≡◌, ◌≤◌}
-use Rattle.h264recode.specs.Recoder.{waiting_count}
+use Rattle.stream_recoder.specs.Recoder.{waiting_count}
 use Rattle.h264recode.proofs.Puts.{Puts}
 use Rattle.h264recode.proofs.run.put_waiting.Given as goal
 

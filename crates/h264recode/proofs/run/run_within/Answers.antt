@@ -3,6 +3,7 @@ use Rattle.std.specs.Prelude.{Option, string_bytes}
 use Rattle.h264_types.specs.declared.layer.Layer.{Layer}
 use Rattle.h264recode.specs.Words.{words_of}
 use Rattle.h264recode.specs.Run.{Ran}
+use Rattle.h264recode.proofs.Headline.{is_headline}
 use Rattle.h264recode.proofs.Told.{is_told, is_exact, is_prompt}
 use Rattle.h264recode.proofs.run.run_within.Goals as goal
 
@@ -37,3 +38,11 @@ returns-clause-prompt g c =
     let k = c.recode_to-status in
     let layer = words_of (map (λ word. string_bytes word) c.args.words.now) in
     is_prompt layer c.args.bound (left c.args.src.now) (left k.new.src) (held c.args.out.now) (held k.new.out) (g.E.Sink.held c.args.report.now) (g.E.Sink.held c.write_report.new.report) c.write_report.result (returns-clause-ends g c)
+
+pub returns-clause-headline : goal.returns-clause-headline
+returns-clause-headline g c =
+    let left = g.S.Source.left in
+    let held = g.K.Sink.held in
+    let k = c.recode_to-status in
+    let layer = words_of (map (λ word. string_bytes word) c.args.words.now) in
+    is_headline layer c.args.bound (left c.args.src.now) (left k.new.src) (held c.args.out.now) (held k.new.out) c.write_report.result (returns-clause-told g c) (returns-clause-exact g c)

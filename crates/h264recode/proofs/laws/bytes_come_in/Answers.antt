@@ -1,5 +1,0 @@
-use Rattle.h264recode.proofs.Judging.{output-stays, verdict-stays}
-use Rattle.h264recode.proofs.laws.bytes_come_in.Goals as goal
-
-pub returns : goal.returns
-returns c = record { output = output-stays; verdict = verdict-stays }

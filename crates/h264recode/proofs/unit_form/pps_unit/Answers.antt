@@ -1,9 +1,0 @@
-use Rattle.std.proofs.Common.{◌∙◌, ap}
-use Rattle.bit_texts.specs.Bits.{bits_of}
-use Rattle.param_sets.specs.PpsCodes.{pps_in, pps_text}
-use Rattle.param_sets.proofs.TrailingWritten.{payload_ends}
-use Rattle.h264recode.proofs.UnitForms.{has_escape}
-use Rattle.h264recode.proofs.unit_form.pps_unit.Goals as goal
-
-pub set_unit-requires : goal.set_unit-requires
-set_unit-requires c = has_escape c.as_slice.result.now (pps_text (pps_in c.args.to c.args.pps.now.pic_parameter_set_id c.args.pps.now)) (payload_ends _) (ap bits_of c.as_slice.ensures.value ∙ c.in_ok-payload.ensures)

@@ -1,9 +1,0 @@
-use Rattle.std.proofs.Common.{◌∙◌, ap}
-use Rattle.bit_texts.specs.Bits.{bits_of}
-use Rattle.param_sets.specs.SpsCodes.{sps_text, without_constraints}
-use Rattle.param_sets.proofs.TrailingWritten.{payload_ends}
-use Rattle.h264recode.proofs.UnitForms.{has_escape}
-use Rattle.h264recode.proofs.unit_form.sps_unit.Goals as goal
-
-pub set_unit-requires : goal.set_unit-requires
-set_unit-requires c = has_escape c.as_slice.result.now (sps_text (without_constraints c.args.sps)) (payload_ends _) (ap bits_of c.as_slice.ensures.value ∙ c.in_ok-payload.ensures ∙ ap sps_text c.cleared-written.ensures)

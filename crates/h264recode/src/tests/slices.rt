@@ -1,0 +1,227 @@
+// Whole runs over streams with slices.
+ghost use Rattle.std.specs.Prelude.{◌<◌};
+
+use super::runs::{CABAC, CAVLC, expect, outside, run_of};
+use crate::status::Status;
+use h264_types::Why;
+use std::alloc::Global;
+use std::process::Abort;
+use std::test::Fail;
+
+/// Main, one macroblock, and a picture parameter set of CAVLC, behind start codes of three bytes.
+const SETS: &[u8] = &[
+    0, 0, 1, 0x67, 0x4D, 0x40, 0x0A, 0xDA, 0x79, 0, 0, 1, 0x68, 0xCE, 0x38, 0x80,
+];
+
+/// The same as they are written in CAVLC, and in CABAC.
+const CAVLC_SETS: &[u8] = &[
+    0, 0, 0, 1, 0x67, 0x4D, 0x40, 0x0A, 0xDA, 0x79, 0, 0, 0, 1, 0x68, 0xCE, 0x38, 0x80,
+];
+
+const CABAC_SETS: &[u8] = &[
+    0, 0, 0, 1, 0x67, 0x4D, 0x40, 0x0A, 0xDA, 0x79, 0, 0, 0, 1, 0x68, 0xEE, 0x38, 0x80,
+];
+
+/// Main, three macroblocks side by side, with a picture parameter set and the start code of a slice; and as the sets are
+/// written.
+const WIDE: &[u8] = &[
+    0, 0, 1, 0x67, 0x4D, 0x40, 0x0A, 0xDA, 0x3E, 0x40, 0, 0, 1, 0x68, 0xCE, 0x38, 0x80, 0, 0, 1,
+];
+
+const WIDE_SETS: &[u8] = &[
+    0, 0, 0, 1, 0x67, 0x4D, 0x40, 0x0A, 0xDA, 0x3E, 0x40, 0, 0, 0, 1, 0x68, 0xCE, 0x38, 0x80,
+];
+
+/// The slice with one I_PCM macroblock, of which the first three samples are 0.
+const I_PCM: &[u8] = &[0, 0, 1, 0x65, 0x88, 0x84, 0x86, 0x80, 0, 0, 3, 0];
+
+/// The samples behind them, and the stop bit.
+const SAMPLES: usize = 382;
+
+// These bytes, one after another, and then so many bytes 80.
+fn bytes(alloc: Global, parts: &[&[u8]], last: usize) -> Result<Vec<u8>, Fail> {
+    let mut bytes = Vec::new(alloc);
+    for part in parts {
+        bytes.extend_from_slice(part)?;
+    }
+    for _ in 0..last {
+        bytes.push(0x80)?;
+    }
+    Ok(bytes)
+}
+
+#[test]
+fn samples_are_written_again(rt: HostRuntime) -> Result<(), Fail> {
+    let input = bytes(rt.alloc(), &[SETS, I_PCM], SAMPLES)?;
+    let output = bytes(rt.alloc(), &[CAVLC_SETS, &[0], I_PCM], SAMPLES)?;
+    let ok = run_of(
+        CAVLC,
+        input.as_slice(),
+        Status::Ok,
+        output.as_slice(),
+        "ok units 3 slices 1 macroblocks 1 in 410 out 413\n",
+    );
+    expect(&rt, rt.alloc(), &ok, 1)?;
+    expect(&rt, rt.alloc(), &ok, 1000)?;
+    let unbuilt = run_of(
+        CABAC,
+        input.as_slice(),
+        Status::Outside {
+            unit: 2,
+            why: Why::Unbuilt,
+        },
+        CABAC_SETS,
+        "outside unit 2 unbuilt\n",
+    );
+    expect(&rt, rt.alloc(), &unbuilt, 100)?;
+    Ok(())
+}
+
+// Three macroblocks side by side, and a slice from the second one on, which has room for two.
+#[test]
+fn macroblocks_lie_in_the_picture(rt: HostRuntime) -> Result<(), Fail> {
+    let first: &[u8] = &[0x65, 0x88, 0x84, 0x86, 0x80];
+    let second: &[u8] = &[0x65, 0x42, 0x21, 0x21, 0xA0];
+    let three = "ok units 3 slices 1 macroblocks 3 in 1182 out 1185\n";
+    let two = "ok units 3 slices 1 macroblocks 2 in 796 out 799\n";
+    let none = Status::Outside {
+        unit: 2,
+        why: Why::Slice,
+    };
+    expect_side_by_side(&rt, rt.alloc(), first, 3, Status::Ok, three)?;
+    expect_side_by_side(&rt, rt.alloc(), second, 2, Status::Ok, two)?;
+    expect_side_by_side(&rt, rt.alloc(), second, 3, none, "outside unit 2 slice\n")?;
+    Ok(())
+}
+
+// A slice of so many I_PCM macroblocks in a picture of three side by side, which begins with these bytes.
+fn expect_side_by_side(
+    rt: &impl Abort,
+    alloc: Global,
+    front: &[u8],
+    count: usize,
+    status: Status,
+    report: &str,
+) -> Result<(), Fail> {
+    let mut slice = bytes(alloc, &[front], 384)?;
+    for _ in 1..count {
+        slice.extend_from_slice(&[0x0D, 0])?;
+        slice.extend_from_slice(&[0x80; 384])?;
+    }
+    slice.push(0x80)?;
+    let input = bytes(alloc, &[WIDE, slice.as_slice()], 0)?;
+    let written = bytes(alloc, &[WIDE_SETS, &[0, 0, 0, 1], slice.as_slice()], 0)?;
+    let output = if status == Status::Ok {
+        written.as_slice()
+    } else {
+        WIDE_SETS
+    };
+    let row = run_of(CAVLC, input.as_slice(), status, output, report);
+    expect(rt, alloc, &row, 100)
+}
+
+// The sets are those that stand when the slice comes: behind the same slice under another set it is read under that one.
+#[test]
+fn the_last_sets_stand(rt: HostRuntime) -> Result<(), Fail> {
+    let first = bytes(rt.alloc(), &[SETS, I_PCM], SAMPLES)?;
+    let cabac: &[u8] = &[0, 0, 1, 0x68, 0xEE, 0x38, 0x80];
+    let again = bytes(rt.alloc(), &[cabac, I_PCM], SAMPLES)?;
+    let input = bytes(rt.alloc(), &[first.as_slice(), again.as_slice()], 0)?;
+    let output = bytes(rt.alloc(), &[CAVLC_SETS, &[0], I_PCM], SAMPLES)?;
+    let pps: &[u8] = &[0, 0, 0, 1, 0x68, 0xCE, 0x38, 0x80];
+    let written = bytes(rt.alloc(), &[output.as_slice(), pps], 0)?;
+    let row = outside(
+        input.as_slice(),
+        4,
+        Why::Unbuilt,
+        written.as_slice(),
+        "outside unit 4 unbuilt\n",
+    );
+    expect(&rt, rt.alloc(), &row, 7)?;
+    Ok(())
+}
+
+// Behind the sets, the first reason against a slice.
+#[test]
+fn slices_are_refused(rt: HostRuntime) -> Result<(), Fail> {
+    let high: &[u8] = &[
+        0, 0, 1, 0x67, 0x4D, 0x40, 0x0A, 0xDA, 0x79, 0, 0, 1, 0x68, 0xCE, 0x38, 0xB0, 0, 0, 1,
+        0x65, 0x88, 0x84, 0x93, 0xC0,
+    ];
+    let tail: &[u8] = &[
+        0, 0, 0, 1, 0x67, 0x4D, 0x40, 0x0A, 0xDA, 0x79, 0, 0, 0, 1, 0x68, 0xCE, 0x38, 0xB0,
+    ];
+    let pps: &[u8] = &[
+        0, 0, 1, 0x68, 0xCE, 0x38, 0x80, 0, 0, 1, 1, 0x9A, 0x25, 0x40,
+    ];
+    let rows = [
+        outside(high, 2, Why::Profile, tail, "outside unit 2 profile\n"),
+        outside(
+            &[0, 0, 1, 1, 0x9A, 0x25, 0x40],
+            0,
+            Why::MissingPps(0),
+            &[],
+            "outside unit 0 missing pps 0\n",
+        ),
+        outside(
+            pps,
+            1,
+            Why::MissingSps(0),
+            &[0, 0, 0, 1, 0x68, 0xCE, 0x38, 0x80],
+            "outside unit 1 missing sps 0\n",
+        ),
+    ];
+    for row in &rows {
+        expect(&rt, rt.alloc(), row, 1)?;
+        expect(&rt, rt.alloc(), row, 100)?;
+    }
+    expect_behind_sets(
+        &rt,
+        rt.alloc(),
+        &[1, 0x9A, 0x25, 0x40],
+        Why::Unbuilt,
+        "outside unit 2 unbuilt\n",
+    )?;
+    expect_behind_sets(
+        &rt,
+        rt.alloc(),
+        &[0x65, 0x88, 0x84, 0x93, 0xC0],
+        Why::Unbuilt,
+        "outside unit 2 unbuilt\n",
+    )?;
+    expect_behind_sets(
+        &rt,
+        rt.alloc(),
+        &[0x65, 0x88, 0x80],
+        Why::Header,
+        "outside unit 2 header\n",
+    )?;
+    expect_behind_sets(
+        &rt,
+        rt.alloc(),
+        &[0x65, 0x88, 0x84, 0x86, 0x80, 0x12],
+        Why::Slice,
+        "outside unit 2 slice\n",
+    )?;
+    expect_behind_sets(
+        &rt,
+        rt.alloc(),
+        &[0x65, 0x88, 0x84, 0x90],
+        Why::Slice,
+        "outside unit 2 slice\n",
+    )?;
+    Ok(())
+}
+
+// A slice unit behind the sets is refused for this reason, and the sets are written.
+fn expect_behind_sets(
+    rt: &impl Abort,
+    alloc: Global,
+    unit: &[u8],
+    why: Why,
+    report: &str,
+) -> Result<(), Fail> {
+    let input = bytes(alloc, &[SETS, &[0, 0, 1], unit], 0)?;
+    let row = outside(input.as_slice(), 2, why, CAVLC_SETS, report);
+    expect(rt, alloc, &row, 5)
+}

@@ -1,0 +1,11 @@
+pub mod Slices
+pub mod Reasons
+pub mod Judging
+pub mod Splitting
+pub mod ComesBack
+pub mod Headline
+pub mod UnitForms
+pub mod Units
+pub mod Pieces
+pub mod SliceForms
+pub mod Quantisers

@@ -1,0 +1,205 @@
+-- The payload of a slice unit is one slice, or is refused for one reason.
+use Rattle.std.proofs.Common.{◌≡◌, ◌⊎◌, inl, inr, ℕ, ◌-◌, List, length, Bool, true, false, not, ◌&&◌, Some, cond, refl, sym, ap, subst, ◌∙◌}
+use Rattle.bit_texts.proofs.Inverting.{some_is}
+use Rattle.cavlc_syntax.specs.SliceText.{IsBuiltShape, HasText, slice_text, NoList}
+use Rattle.cavlc_syntax.specs.Unbuilt.{IsUnbuilt}
+use Rattle.cavlc_syntax.proofs.Decided.{decided}
+use Rattle.cavlc_syntax.proofs.Texts.{one_list, unbuilt_no_list}
+use Rattle.exp_golomb.specs.Syntax.{Syntax, Refuse, Outcome, Found, Refused, NoText, Spells, outcome_of}
+use Rattle.exp_golomb.proofs.Syntaxes.{one_outcome, spelled}
+use Rattle.h264_types.specs.declared.fault.Why.{Why}
+use Rattle.h264_types.specs.declared.fault.Why.TheVariants.{Unbuilt, Header as BadHeader, Slice as BadSlice}
+use Rattle.h264_types.specs.declared.layer.Layer.{Layer}
+use Rattle.h264_types.specs.declared.layer.Layer.TheVariants.{Cavlc, Cabac}
+use Rattle.h264_types.specs.declared.macroblock.Mb.{Mb}
+use Rattle.h264_types.specs.declared.slice_shape.SliceKind.{SliceKind}
+use Rattle.h264_types.specs.declared.slice_shape.SliceKind.TheVariants.{I}
+use Rattle.h264_types.specs.declared.slice_shape.SliceShape.{SliceShape}
+use Rattle.param_sets.proofs.SetLaws.{nothing_spelled}
+use Rattle.param_sets.proofs.Spelled.{found_then, same_found}
+use Rattle.param_sets.specs.Sets.{SetMaps, find_sps}
+use Rattle.param_sets.specs.SpsCodes.{IsSps}
+use Rattle.param_sets.specs.declared.pps.Pps.{Pps}
+use Rattle.param_sets.specs.declared.sps.Sps.{Sps}
+use Rattle.slice_header.specs.HeaderCodes.{HeaderFits, IsAllowed, Names}
+use Rattle.slice_header.specs.Refusal.{Refusal, NotBuilt}
+use Rattle.slice_header.specs.Shape.{shape_of}
+use Rattle.slice_header.specs.SliceHeader.{Active, is_i, slice_start}
+use Rattle.slice_header.specs.declared.header.Header.{Header}
+use Rattle.slice_header.proofs.HeaderLaws.{written_one, shape_fits}
+use Rattle.stream_recoder.specs.Items.{Slice, slice_header_to, IsSliceOf}
+use Rattle.stream_recoder.specs.Verdict.{why_of_header, IsNoText, IsNoData, HasNoData, IsNoSlice}
+
+-- ## One slice
+
+-- a number names one pair of sets
+pub names-once : (sets : SetMaps) (n : ℕ) (a b : Active) → Names sets n a → Names sets n b → a ≡ b
+names-once sets n a b h k =
+    let p : a.pps ≡ b.pps = some_is a.pps b.pps (sym h.pps ∙ k.pps) in
+    let s : a.sps ≡ b.sps = some_is a.sps b.sps (sym h.sps ∙ ap (λ (x : Pps). find_sps x.seq_parameter_set_id sets) p ∙ k.sps) in
+    ap (λ x. let c : Active = record { sps = x; pps = a.pps } in c) s ∙ ap (λ x. let c : Active = record { sps = b.sps; pps = x } in c) p
+
+-- headers found in the same bits, and what follows them
+pub header-once : (to : Layer) (sets : SetMaps) (header : ℕ) (bits : List Bool) (h k : Header) (rest after : List Bool) →
+    Spells (slice_header_to to sets header) bits (Found h rest) → Spells (slice_header_to to sets header) bits (Found k after) → (h ≡ k) × (rest ≡ after)
+header-once to sets header bits h k rest after a b =
+    same_found h k rest after (Found h rest) refl (one_outcome (slice_header_to to sets header) bits (Found h rest) (Found k after) a b)
+
+mbs-once : (h k : Header) (a b : Active) (n : ℕ) (rest after : List Bool) (ms ns : List Mb) → h ≡ k → a ≡ b → rest ≡ after → HasText (shape_of a h) ms → HasText (shape_of b k) ns
+    → rest ≡ slice_text (shape_of a h) (n - length rest) ms → after ≡ slice_text (shape_of b k) (n - length after) ns → ms ≡ ns
+mbs-once h k a b n rest after ms ns e f g has has' is is' =
+    let S : Header × Active → Type 0 = λ x. HasText (shape_of x.1 x.0) ms in
+    let same : shape_of a h ≡ shape_of b k = ap (λ x. shape_of a x) e ∙ ap (λ x. shape_of x k) f in
+    let P : SliceShape → Type 0 = λ s. HasText s ms in
+    let Q : SliceShape → Type 0 = λ s. rest ≡ slice_text s (n - length rest) ms in
+    let R : List Bool → Type 0 = λ r. r ≡ slice_text (shape_of b k) (n - length r) ms in
+    one_list (shape_of b k) (n - length after) ms ns (subst P same has) has' (sym (subst R g (subst Q same is)) ∙ is')
+
+pub slice-once : (to : Layer) (sets : SetMaps) (header : ℕ) (bits : List Bool) (s t : Slice) → IsSliceOf to sets header bits s → IsSliceOf to sets header bits t → s ≡ t
+slice-once to sets header bits s t is js =
+    let f = header-once to sets header bits s.header t.header is.rest js.rest is.header_is js.header_is in
+    let N : Header → Type 0 = λ x. Names sets x.pic_parameter_set_id s.active in
+    let a = names-once sets t.header.pic_parameter_set_id s.active t.active (subst N f.0 is.names) js.names in
+    let m = mbs-once s.header t.header s.active t.active (length bits) is.rest js.rest s.mbs t.mbs f.0 a f.1 is.list js.list is.rest_is js.rest_is in
+    ap (λ x. let c : Slice = record { header = x; active = s.active; mbs = s.mbs } in c) f.0
+    ∙ ap (λ x. let c : Slice = record { header = t.header; active = x; mbs = s.mbs } in c) a
+    ∙ ap (λ x. let c : Slice = record { header = t.header; active = t.active; mbs = x } in c) m
+
+-- ## One reason
+
+same_cause : {E A : Type 0} (c d : E) (first second : Outcome E A) → first ≡ Refused c → second ≡ Refused d → first ≡ second → c ≡ d
+same_cause c d first second e f same = let both = sym e ∙ same ∙ f in cc
+
+-- the bits have no reading by this syntax, for one reason
+pub no_text-once : {E A : Type 0} (named : E → Why) (none : Why) (syntax : Syntax E A) (bits : List Bool) (v w : Why) → IsNoText named none syntax bits v → IsNoText named none syntax bits w → v ≡ w
+no_text-once named none syntax bits v w (inl a) (inl b) = a.0 ∙ sym b.0
+no_text-once named none syntax bits v w (inl a) (inr b) = absurd (a.1 (Refused b.0) b.2)
+no_text-once named none syntax bits v w (inr a) (inl b) = absurd (b.1 (Refused a.0) a.2)
+no_text-once named none syntax bits v w (inr a) (inr b) =
+    a.1 ∙ ap named (same_cause a.0 b.0 (Refused a.0) (Refused b.0) refl refl (one_outcome syntax bits (Refused a.0) (Refused b.0) a.2 b.2)) ∙ sym b.1
+
+-- a value that stands there is no reason
+pub no_text-found : {E A : Type 0} (named : E → Why) (none : Why) (syntax : Syntax E A) (bits : List Bool) (why : Why) (value : A) (rest : List Bool) → IsNoText named none syntax bits why → Spells syntax bits (Found value rest) → ⊥
+no_text-found named none syntax bits why value rest (inl a) t = a.1 (Found value rest) t
+no_text-found named none syntax bits why value rest (inr a) t = let same = one_outcome syntax bits (Refused a.0) (Found value rest) a.2 t in cc
+
+data-once : (shape : SliceShape) (pos : ℕ) (rest : List Bool) (v w : Why) → IsNoData shape pos rest v → IsNoData shape pos rest w → v ≡ w
+data-once shape pos rest v w (inl a) (inl b) = a.0 ∙ sym b.0
+data-once shape pos rest v w (inl a) (inr b) = absurd (b.2 a.1)
+data-once shape pos rest v w (inr a) (inl b) = absurd (a.2 b.1)
+data-once shape pos rest v w (inr a) (inr b) = a.0 ∙ sym b.0
+
+-- what is refused behind one header is refused behind the same one
+data-moved : (h k : Header) (a b : Active) (n : ℕ) (rest after : List Bool) (why : Why) → h ≡ k → a ≡ b → rest ≡ after → IsNoData (shape_of a h) (n - length rest) rest why → IsNoData (shape_of b k) (n - length after) after why
+data-moved h k a b n rest after why e f g none =
+    let P : Header → Type 0 = λ x. IsNoData (shape_of a x) (n - length rest) rest why in
+    let Q : Active → Type 0 = λ x. IsNoData (shape_of x k) (n - length rest) rest why in
+    let R : List Bool → Type 0 = λ x. IsNoData (shape_of b k) (n - length x) x why in
+    subst R g (subst Q f (subst P e none))
+
+no_data-once : (to : Layer) (sets : SetMaps) (header : ℕ) (bits : List Bool) (v w : Why) → HasNoData to sets header bits v → HasNoData to sets header bits w → v ≡ w
+no_data-once to sets header bits v w a b =
+    let f = header-once to sets header bits a.h b.h a.rest b.rest a.header_is b.header_is in
+    let N : Header → Type 0 = λ x. Names sets x.pic_parameter_set_id a.active in
+    let g = names-once sets b.h.pic_parameter_set_id a.active b.active (subst N f.0 a.names) b.names in
+    data-once (shape_of b.active b.h) (length bits - length b.rest) b.rest v w (data-moved a.h b.h a.active b.active (length bits) a.rest b.rest v f.0 g f.1 a.none) b.none
+
+pub no_slice-once : (to : Layer) (sets : SetMaps) (header : ℕ) (bits : List Bool) (v w : Why) → IsNoSlice to sets header bits v → IsNoSlice to sets header bits w → v ≡ w
+no_slice-once to sets header bits v w (inl a) (inl b) =
+    no_text-once why_of_header BadHeader (slice_header_to to sets header) bits v w a b
+no_slice-once to sets header bits v w (inl a) (inr b) = absurd (no_text-found why_of_header BadHeader (slice_header_to to sets header) bits v b.h b.rest a b.header_is)
+no_slice-once to sets header bits v w (inr a) (inl b) = absurd (no_text-found why_of_header BadHeader (slice_header_to to sets header) bits w a.h a.rest b a.header_is)
+no_slice-once to sets header bits v w (inr a) (inr b) = no_data-once to sets header bits v w a b
+
+-- data of a slice are not refused
+data-not_refused : (shape : SliceShape) (pos : ℕ) (rest : List Bool) (why : Why) (mbs : List Mb) → HasText shape mbs → rest ≡ slice_text shape pos mbs → IsNoData shape pos rest why → ⊥
+data-not_refused shape pos rest why mbs has is (inl a) = unbuilt_no_list shape pos rest a.1 mbs has is
+data-not_refused shape pos rest why mbs has is (inr a) = a.1 mbs has is
+
+pub slice-not_refused : (to : Layer) (sets : SetMaps) (header : ℕ) (bits : List Bool) (s : Slice) (why : Why) → IsSliceOf to sets header bits s → IsNoSlice to sets header bits why → ⊥
+slice-not_refused to sets header bits s why is (inl a) = no_text-found why_of_header BadHeader (slice_header_to to sets header) bits why s.header is.rest a is.header_is
+slice-not_refused to sets header bits s why is (inr a) =
+    let f = header-once to sets header bits a.h s.header a.rest is.rest a.header_is is.header_is in
+    let N : Header → Type 0 = λ x. Names sets x.pic_parameter_set_id a.active in
+    let g = names-once sets s.header.pic_parameter_set_id a.active s.active (subst N f.0 a.names) is.names in
+    data-not_refused (shape_of s.active s.header) (length bits - length is.rest) is.rest why s.mbs is.list is.rest_is
+    (data-moved a.h s.header a.active s.active (length bits) a.rest is.rest why f.0 g f.1 a.none)
+
+-- ## Each payload is decided
+
+-- the sets that stand are in range
+abbrev pub AreInRange : SetMaps → Type 0
+AreInRange sets = (n : ℕ) (sps : Sps) → find_sps n sets ≡ Some sps → IsSps sps
+
+-- the elements of a header in CAVLC, under the sets that it names
+pub record FoundHeader (sets : SetMaps) (h : Header) : Type 0 where
+  pub active : Active
+  pub names : Names sets h.pic_parameter_set_id active
+  pub allowed : IsAllowed h.slice_type active
+  pub fits : HeaderFits active h
+
+pub header-found : (to : Layer) (sets : SetMaps) (header : ℕ) (bits rest : List Bool) (h : Header) → Spells (slice_header_to to sets header) bits (Found h rest) → FoundHeader sets h × (to ≡ Cavlc)
+header-found Cavlc sets header bits rest h text =
+    let f = written_one sets header bits rest h text in
+    (record { active = f.0; names = f.1; allowed = f.2; fits = f.3 }, refl)
+header-found Cabac sets header bits rest h text =
+    let f = found_then (slice_start sets) (λ start. Refuse NotBuilt) bits h rest text in absurd (let e : Found h rest ≡ Refused NotBuilt = f.3 in cc)
+
+-- the header byte stands in the header
+pub slice-nal : (to : Layer) (sets : SetMaps) (header : ℕ) (bits : List Bool) (s : Slice) → IsSliceOf to sets header bits s → s.header.nal ≡ header
+slice-nal Cavlc sets header bits s is = (written_one sets header bits is.rest s.header is.header_is).4
+slice-nal Cabac sets header bits s is = absurd (let e = (header-found Cabac sets header bits is.rest s.header is.header_is).1 in cc)
+
+is_i-kind : (b : Bool) (other : SliceKind) → b ≡ true → cond b I other ≡ I
+is_i-kind true other e = refl
+is_i-kind false other e = absurd cc
+
+-- a frame without fields has no pairs
+no_pairs : (adaptive field : Bool) → adaptive ≡ false → (adaptive && not field) ≡ false
+no_pairs true field e = absurd cc
+no_pairs false field e = refl
+
+three : (a b c : Bool) → (a && b && c) ≡ true → b ≡ true
+three true true c e = refl
+three true false c e = absurd cc
+three false b c e = absurd cc
+
+-- slices that are allowed are I slices outside MBAFF
+pub built_under : (active : Active) (h : Header) → IsSps active.sps → IsAllowed h.slice_type active → HeaderFits active h → IsBuiltShape (shape_of active h)
+built_under active h sps allowed fits =
+    let frame = three (is_i h.slice_type) active.sps.frame_mbs_only_flag (not active.pps.entropy_coding_mode_flag) allowed.built in
+    record {
+      is_shape = shape_fits active h sps fits;
+      kind = is_i-kind (is_i h.slice_type) _ fits.i_slice;
+      mbaff = no_pairs active.sps.mb_adaptive_frame_field_flag h.field_pic_flag (sps.fits.size.mb_adaptive_frame_field_flag frame);
+    }
+
+built : (sets : SetMaps) (h : Header) (f : FoundHeader sets h) → AreInRange sets → IsBuiltShape (shape_of f.active h)
+built sets h f range = built_under f.active h (range f.active.pps.seq_parameter_set_id f.active.sps f.names.sps) f.allowed f.fits
+
+abbrev pub DecidedSlice : Layer → SetMaps → ℕ → List Bool → Type 0
+DecidedSlice to sets header bits = ((s : Slice) × IsSliceOf to sets header bits s) ⊎ ((why : Why) × IsNoSlice to sets header bits why)
+
+-- what follows a header is decided
+rest-decided : (to : Layer) (sets : SetMaps) (header : ℕ) (bits rest : List Bool) (h : Header) (f : FoundHeader sets h) → Spells (slice_header_to to sets header) bits (Found h rest)
+    → ((mbs : List Mb) × HasText (shape_of f.active h) mbs × (rest ≡ slice_text (shape_of f.active h) (length bits - length rest) mbs))
+    ⊎ (IsUnbuilt (shape_of f.active h) (length bits - length rest) rest ⊎ (NoList (shape_of f.active h) (length bits - length rest) rest × (IsUnbuilt (shape_of f.active h) (length bits - length rest) rest → ⊥)))
+    → DecidedSlice to sets header bits
+rest-decided to sets header bits rest h f text (inl d) =
+    inl (record { header = h; active = f.active; mbs = d.0 }, record { names = f.names; rest = rest; header_is = text; list = d.1; rest_is = d.2 })
+rest-decided to sets header bits rest h f text (inr (inl d)) =
+    inr (Unbuilt, inr (record { h = h; active = f.active; names = f.names; rest = rest; header_is = text; none = inl (refl, d) }))
+rest-decided to sets header bits rest h f text (inr (inr d)) =
+    inr (BadSlice, inr (record { h = h; active = f.active; names = f.names; rest = rest; header_is = text; none = inr (refl, d.0, d.1) }))
+
+by_outcome : (to : Layer) (sets : SetMaps) (header : ℕ) (bits : List Bool) → AreInRange sets → (o : Outcome Refusal Header) → outcome_of (slice_header_to to sets header) bits ≡ o → DecidedSlice to sets header bits
+by_outcome to sets header bits range (Found h rest) e =
+    let text = spelled (slice_header_to to sets header) bits (Found h rest) e (λ k. cc) in
+    let f = (header-found to sets header bits rest h text).0 in
+    rest-decided to sets header bits rest h f text (decided (shape_of f.active h) (length bits - length rest) rest (built sets h f range))
+by_outcome to sets header bits range (Refused cause) e =
+    inr (why_of_header cause, inl (inr (cause, refl, spelled (slice_header_to to sets header) bits (Refused cause) e (λ k. cc))))
+by_outcome to sets header bits range NoText e = inr (BadHeader, inl (inl (refl, nothing_spelled (slice_header_to to sets header) bits e)))
+
+pub slice-decided : (to : Layer) (sets : SetMaps) (header : ℕ) (bits : List Bool) → AreInRange sets → DecidedSlice to sets header bits
+slice-decided to sets header bits range = by_outcome to sets header bits range (outcome_of (slice_header_to to sets header) bits) refl

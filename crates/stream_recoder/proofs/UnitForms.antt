@@ -1,0 +1,157 @@
+-- What is written for one unit.
+use Rattle.std.proofs.Common.{◌≡◌, ◌∙◌, sym, ap, subst, refl, inl, inr, ℕ, ◌%◌, List, ◌∷◌, drop, length, Bool, true, false, Option, Some, None, Err, map, ◌-◌, append-nil}
+use Rattle.std.specs.Prelude.{is_some}
+use Rattle.std.specs.List.{concat}
+use Rattle.bit_texts.specs.Bits.{bits_of, bytes_of}
+use Rattle.exp_golomb.specs.EmulationPrevention.{IsEscape, HasEscape, zeros_at_end, escaped, payload_of}
+use Rattle.exp_golomb.proofs.Escapes.{payload_of-escaped, escaped-payload_of}
+use Rattle.stream_taps.specs.declared.event.Event.{Event}
+use Rattle.h264_types.specs.declared.fault.Why.{Why}
+use Rattle.h264_types.specs.declared.layer.Layer.{Layer}
+use Rattle.h264_types.specs.declared.fault.Why.TheVariants.{Escape, Sps as BadSps, Pps as BadPps, Profile as BadProfile, Limit as BadLimit}
+use Rattle.annexb_units.specs.declared.unescaping.EscapeFault.{EscapeFault}
+use Rattle.annexb_units.specs.declared.unescaping.EscapeFault.TheVariants.{BadEscape, Memory as NoMemory}
+use Rattle.param_sets.specs.PictureParameterSet.{PpsText, ReadsPps}
+use Rattle.param_sets.specs.Refusal.{OutsideProfile, AboveLimit}
+use Rattle.param_sets.specs.SequenceParameterSet.{SpsText, ReadsSps}
+use Rattle.param_sets.specs.Sets.{SetMaps, sps_put, pps_put}
+use Rattle.param_sets.specs.TrailingBits.{IsPayload}
+use Rattle.param_sets.specs.declared.fault.SetFault.{SetFault}
+use Rattle.param_sets.specs.declared.fault.SetFault.TheVariants.{NoReading, Profile, Limit, Memory}
+use Rattle.param_sets.specs.declared.pps.Pps.{Pps}
+use Rattle.param_sets.specs.declared.sps.Sps.{Sps}
+use Rattle.stream_recoder.specs.declared.plan.Plan.{Plan}
+use Rattle.stream_recoder.specs.declared.unit_kind.UnitKind.{UnitKind}
+use Rattle.stream_recoder.specs.declared.unit_kind.UnitKind.TheVariants.{Carried as IsCarried, Slice as IsSlice, Sps as IsSps, Pps as IsPps}
+use Rattle.stream_recoder.specs.Items.{header_of, unit_type, kind_of, Carried, TheSps, ThePps, TheSlice}
+use Rattle.stream_recoder.specs.Verdict.{IsRefusedUnit, IsRefusedEscape, Refuses, number_stop, has_pps}
+use Rattle.stream_recoder.specs.Written.{Written, written_of, form_of, with_start_code, sps_unit, pps_unit, pps_units, slice_in, slice_unit}
+use Rattle.stream_recoder.specs.declared.fault.UnitFault.{UnitFault}
+use Rattle.stream_recoder.specs.declared.fault.UnitFault.TheVariants.{Outside, Memory as NoMemoryLeft}
+use Rattle.stream_recoder.specs.Forms.{IsForm, IsRefusal, fault_of_escape, fault_of_set}
+use Rattle.stream_recoder.specs.SliceForms.{IsSliceForm, IsSliceRefusal}
+
+abbrev pub written_with : List ℕ → Event → Written
+written_with form event = record { form = form; event = event }
+
+abbrev event_with : List ℕ → List ℕ → ℕ → Event
+event_with unit form macroblocks = record { kind = unit_type unit; macroblocks = macroblocks; bytes_in = length unit; bytes_out = length form }
+
+refuses_as : (to : Layer) (sets : SetMaps) (unit : List ℕ) (k : UnitKind) (why : Why) → kind_of unit ≡ k → IsRefusedUnit to sets k unit why → Refuses to sets unit why
+refuses_as to sets unit k why e r = let P : UnitKind → Type 0 = λ x. IsRefusedUnit to sets x unit why in subst P (sym e) r
+
+-- ## A carried unit
+
+-- whether the bytes behind the header byte are those of a payload
+by_payload : (bytes : List ℕ) (o : Option (List ℕ)) → payload_of bytes ≡ o → is_some o ≡ true → (payload : List ℕ) × IsEscape payload bytes
+by_payload bytes None e h = absurd (cc)
+by_payload bytes (Some payload) e h = (payload, escaped-payload_of payload bytes e)
+
+pub no_payload : (bytes payload : List ℕ) → is_some (payload_of bytes) ≡ false → IsEscape payload bytes → ⊥
+no_payload bytes payload h is = absurd (let e : is_some (Some payload) ≡ false = ap is_some (sym (payload_of-escaped payload bytes is)) ∙ h in cc)
+
+pub carried : (o : Plan) (sets : SetMaps) (unit form : List ℕ) → kind_of unit ≡ IsCarried → is_some (payload_of (drop 1 unit)) ≡ true → form ≡ 0 ∷ 0 ∷ 0 ∷ 1 ∷ unit → IsForm o sets sets unit form 0
+carried o sets unit form kind some bytes =
+    let p = by_payload (drop 1 unit) (payload_of (drop 1 unit)) refl some in
+    record {
+      item = Carried unit;
+      read = (p.0, (kind, p.1), refl);
+      goes_on = λ before. refl;
+      sets_are = refl;
+      count = refl;
+      bytes = bytes ∙ sym (append-nil (0 ∷ 0 ∷ 0 ∷ 1 ∷ unit));
+    }
+
+pub carried_escape : (to : Layer) (sets : SetMaps) (unit : List ℕ) → kind_of unit ≡ IsCarried → is_some (payload_of (drop 1 unit)) ≡ false → Refuses to sets unit Escape
+carried_escape to sets unit kind none = refuses_as to sets unit IsCarried Escape kind (inl (refl, λ payload is. no_payload (drop 1 unit) payload none is))
+
+-- ## Units with a payload
+
+-- a unit without a payload
+escape_refused : (to : Layer) (sets : SetMaps) (unit : List ℕ) (k : UnitKind) (fault : EscapeFault) → (IsRefusedEscape to sets k unit Escape → Refuses to sets unit Escape)
+    → (fault ≡ BadEscape → (payload : List ℕ) → IsEscape payload (drop 1 unit) → ⊥) → IsRefusal to sets unit (fault_of_escape fault)
+escape_refused to sets unit k BadEscape refuse h = refuse (inl (refl, h refl))
+escape_refused to sets unit k NoMemory refuse h = tt
+
+pub escape_refused_sps : (to : Layer) (sets : SetMaps) (unit : List ℕ) (fault : EscapeFault) → kind_of unit ≡ IsSps → (fault ≡ BadEscape → (payload : List ℕ) → IsEscape payload (drop 1 unit) → ⊥) → IsRefusal to sets unit (fault_of_escape fault)
+escape_refused_sps to sets unit fault kind h = escape_refused to sets unit IsSps fault (λ r. refuses_as to sets unit IsSps Escape kind r) h
+
+pub escape_refused_pps : (to : Layer) (sets : SetMaps) (unit : List ℕ) (fault : EscapeFault) → kind_of unit ≡ IsPps → (fault ≡ BadEscape → (payload : List ℕ) → IsEscape payload (drop 1 unit) → ⊥) → IsRefusal to sets unit (fault_of_escape fault)
+escape_refused_pps to sets unit fault kind h = escape_refused to sets unit IsPps fault (λ r. refuses_as to sets unit IsPps Escape kind r) h
+
+pub escape_refused_slice : (to : Layer) (sets : SetMaps) (unit : List ℕ) (fault : EscapeFault) → kind_of unit ≡ IsSlice → (fault ≡ BadEscape → (payload : List ℕ) → IsEscape payload (drop 1 unit) → ⊥) → IsRefusal to sets unit (fault_of_escape fault)
+escape_refused_slice to sets unit fault kind h = escape_refused to sets unit IsSlice fault (λ r. refuses_as to sets unit IsSlice Escape kind r) h
+
+-- ## Sets
+
+pub sps_refused : (to : Layer) (sets : SetMaps) (unit payload : List ℕ) (fault : SetFault) → kind_of unit ≡ IsSps → IsEscape payload (drop 1 unit) → ReadsSps (Err fault) (bits_of payload) → IsRefusal to sets unit (fault_of_set BadSps fault)
+sps_refused to sets unit payload NoReading kind is r = refuses_as to sets unit IsSps BadSps kind (inr (payload, is, inl (refl, r)))
+sps_refused to sets unit payload Profile kind is r = refuses_as to sets unit IsSps BadProfile kind (inr (payload, is, inr (OutsideProfile, refl, r)))
+sps_refused to sets unit payload Limit kind is r = refuses_as to sets unit IsSps BadLimit kind (inr (payload, is, inr (AboveLimit, refl, r)))
+sps_refused to sets unit payload Memory kind is r = tt
+
+pub pps_refused : (to : Layer) (sets : SetMaps) (unit payload : List ℕ) (fault : SetFault) → kind_of unit ≡ IsPps → IsEscape payload (drop 1 unit) → ReadsPps (Err fault) (bits_of payload) → IsRefusal to sets unit (fault_of_set BadPps fault)
+pps_refused to sets unit payload NoReading kind is r = refuses_as to sets unit IsPps BadPps kind (inr (payload, is, inl (refl, r)))
+pps_refused to sets unit payload Profile kind is r = refuses_as to sets unit IsPps BadProfile kind (inr (payload, is, inr (OutsideProfile, refl, r)))
+pps_refused to sets unit payload Limit kind is r = absurd r
+pps_refused to sets unit payload Memory kind is r = tt
+
+pub sps_written : (o : Plan) (sets after : SetMaps) (unit payload form : List ℕ) (sps : Sps) → kind_of unit ≡ IsSps → IsEscape payload (drop 1 unit) → SpsText sps (bits_of payload) → form ≡ with_start_code (sps_unit (header_of unit) sps)
+    → after ≡ sps_put sps sets → IsForm o sets after unit form 0
+sps_written o sets after unit payload form sps kind is text bytes stand = record {
+  item = TheSps (header_of unit) sps;
+  read = (payload, (kind, is), refl, text);
+  goes_on = λ before. refl;
+  sets_are = stand;
+  count = refl;
+  bytes = bytes ∙ sym (append-nil (with_start_code (sps_unit (header_of unit) sps)));
+}
+
+pub pps_written : (o : Plan) (sets after : SetMaps) (unit payload form : List ℕ) (pps : Pps) → o.range ≡ None → kind_of unit ≡ IsPps → IsEscape payload (drop 1 unit) → PpsText pps (bits_of payload)
+    → form ≡ with_start_code (pps_unit o.to pps.pic_parameter_set_id (header_of unit) pps) → after ≡ pps_put pps sets → IsForm o sets after unit form 0
+pps_written o sets after unit payload form pps whole kind is text bytes stand = record {
+  item = ThePps (header_of unit) pps;
+  read = (payload, (kind, is), refl, text);
+  goes_on = λ before. ap (λ r. number_stop r (has_pps before (255 - pps.pic_parameter_set_id))) whole;
+  sets_are = stand;
+  count = refl;
+  bytes = bytes ∙ sym (append-nil (with_start_code unit')) ∙ sym (ap (λ r. concat (map with_start_code (pps_units o r unit (header_of unit) pps))) whole);
+}
+  where
+    unit' : List ℕ
+    unit' = pps_unit o.to pps.pic_parameter_set_id (header_of unit) pps
+
+-- ## Slices
+
+pub slice_refused : (to : Layer) (sets : SetMaps) (unit payload : List ℕ) (fault : UnitFault) → kind_of unit ≡ IsSlice → IsEscape payload (drop 1 unit) → IsSliceRefusal to sets (header_of unit) (bits_of payload) fault → IsRefusal to sets unit fault
+slice_refused to sets unit payload (Outside why) kind is r = refuses_as to sets unit IsSlice why kind (inr (payload, is, r))
+slice_refused to sets unit payload NoMemoryLeft kind is r = tt
+
+pub slice_written : (o : Plan) (sets : SetMaps) (unit payload form written : List ℕ) (macroblocks : ℕ) → kind_of unit ≡ IsSlice → IsEscape payload (drop 1 unit)
+    → (f : IsSliceForm o.to sets (header_of unit) (bits_of payload) written macroblocks) → header_of unit ≡ f.slice.header.nal
+    → form ≡ with_start_code (header_of unit ∷ escaped (bytes_of (bits_of written))) → IsForm o sets sets unit form macroblocks
+slice_written o sets unit payload form written macroblocks kind is f nal bytes = record {
+  item = TheSlice f.slice;
+  read = (payload, (kind, is), f.read);
+  goes_on = λ before. refl;
+  sets_are = refl;
+  count = f.count;
+  bytes = bytes ∙ ap (λ h. with_start_code (h ∷ escaped (bytes_of (bits_of written)))) nal ∙ ap (λ b. with_start_code (f.slice.header.nal ∷ escaped (bytes_of b))) f.written
+      ∙ sym (append-nil (with_start_code (slice_unit (slice_in o.to f.slice))));
+}
+
+-- ## What is written for a unit, with the event of it
+
+pub written_form : (o : Plan) (sets after : SetMaps) (unit form : List ℕ) (macroblocks : ℕ) (event : Event) (f : IsForm o sets after unit form macroblocks)
+    → event ≡ record { kind = unit_type unit; macroblocks = macroblocks; bytes_in = length unit; bytes_out = length form } → written_with form event ≡ written_of o unit f.item
+written_form o sets after unit form macroblocks event f is =
+    ap (written_with form) is ∙ ap (λ b. written_with b (event_with unit b macroblocks)) f.bytes
+    ∙ ap (λ m. written_with (form_of o unit f.item) (event_with unit (form_of o unit f.item) m)) f.count
+
+-- ## Payloads of sets
+
+pub has_escape : (payload : List ℕ) (bits : List Bool) → IsPayload bits → bits_of payload ≡ bits → HasEscape (bytes_of (bits_of payload))
+has_escape payload bits is e = ap (λ z. z % 2) (ap (λ x. zeros_at_end (bytes_of x)) e ∙ is.no_zeros_at_end)
+
+pub unit_bytes : (form payload : List ℕ) (bits : List Bool) (header : ℕ) → form ≡ with_start_code (header ∷ escaped (bytes_of (bits_of payload))) → bits_of payload ≡ bits → form ≡ with_start_code (header ∷ escaped (bytes_of bits))
+unit_bytes form payload bits header e same = e ∙ ap (λ p. with_start_code (header ∷ escaped (bytes_of p))) same

@@ -1,0 +1,5 @@
+use Rattle.stream_recoder.proofs.Judging.{output-stays, verdict-stays}
+use Rattle.stream_recoder.proofs.laws.bytes_come_in.Goals as goal
+
+pub returns : goal.returns
+returns c = record { output = output-stays; verdict = verdict-stays }

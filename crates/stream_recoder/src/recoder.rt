@@ -1,0 +1,177 @@
+//! The recoder: the bytes of a stream in, written units out.
+ghost use Rattle.std.specs.Prelude.{◌≡◌, ◌+◌, ◌∷◌, ◌++◌, [], ℕ, List, length, map, Some, None, OnOk, OnErr, OnSome, Err, IfErr, IfOk, IfSome, IfNone};
+ghost use Rattle.stream_recoder.specs.Items.{unit_type};
+ghost use Rattle.stream_recoder.specs.Written.{Written};
+
+use crate::fault::UnitFault;
+use crate::plan::Plan;
+use crate::unit_form::{UnitForm, unit_form};
+use crate::unit_kind::unit_type;
+use annexb_units::{SplitFault, Splitter};
+use h264_types::Stopped;
+use param_sets::Sets;
+use std::alloc::{AllocError as Memory, Global};
+use std::collections::VecDeque;
+use stream_taps::Event;
+
+/// Takes the bytes of a stream in pieces of any size, and gives its units as they are written.
+///
+/// It holds the unit that is being read, the parameter sets that stand, and what was written and not drained yet.
+#[derive(Drop)]
+pub struct Recoder {
+    alloc: Global,
+    plan: Plan,
+    splitter: Splitter,
+    /// The parameter sets that stand behind the units that were read.
+    sets: Sets,
+    forms: VecDeque<(Vec<u8>, Event)>,
+    /// The number of units that were read.
+    units: u64,
+    stopped: Option<Stopped>,
+    ghost whole: { plan.range ≡ None },
+}
+
+impl Recoder {
+    ghost use Rattle.stream_recoder.specs.Recoder.{waiting, waiting_count, plan_of, IsStopped, HasRecoded, RecodesMore, RecodingStops, Drains, IsKept, Adds, IsRefusedBy, stopped_at, TakesAll, TakingStops};
+
+    /// A recoder at the beginning of a stream, for a run that is not partial.
+    pub fn new(alloc: Global, plan: Plan) -> Result<Recoder, Memory>
+        requires { plan.range ≡ None }
+        ensures { IfOk result (λ recoder. HasRecoded recoder [] [] × (plan_of recoder ≡ plan)) }
+    {
+        Ok(Recoder {
+            alloc,
+            plan,
+            splitter: Splitter::new(alloc),
+            sets: Sets::new(alloc),
+            forms: VecDeque::new(alloc),
+            units: 0,
+            stopped: None,
+        })
+    }
+
+    /// Takes the next piece of the stream. What was written before a stop can still be drained, and the same stop comes
+    /// again from then on.
+    pub fn feed(&mut self, piece: &[u8]) -> Result<(), Stopped>
+        ensures ok { OnOk result (RecodesMore self.old self.new piece.now) }
+        ensures err { IfErr result (RecodingStops self.old self.new piece.now) }
+        ensures again { (stopped : _) → IsStopped self.old stopped → (result ≡ Err stopped) × (self.new ≡ self.old) }
+        ensures stops { IfErr result (IsStopped self.new) }
+        ensures plan { plan_of self.new ≡ plan_of self.old }
+    {
+        if let Some(stopped) = self.stopped {
+            return Err(stopped);
+        }
+        match self.splitter.feed(piece) {
+            Ok(()) => self.take_ended(),
+            Err(SplitFault::Bad { unit, why }) => {
+                self.take_ended()?;
+                Err(self.stop(Stopped::Outside { unit, why }))
+            }
+            Err(SplitFault::Memory) => Err(self.stop(Stopped::Memory)),
+        }
+    }
+
+    /// Takes the end of the stream, which acts as three more zero bytes would: the last unit ends there.
+    pub fn finish(&mut self) -> Result<(), Stopped>
+        ensures ok { OnOk result (RecodesMore self.old self.new (0 ∷ 0 ∷ 0 ∷ [])) }
+        ensures err { IfErr result (RecodingStops self.old self.new (0 ∷ 0 ∷ 0 ∷ [])) }
+        ensures again { (stopped : _) → IsStopped self.old stopped → (result ≡ Err stopped) × (self.new ≡ self.old) }
+        ensures stops { IfErr result (IsStopped self.new) }
+        ensures plan { plan_of self.new ≡ plan_of self.old }
+    {
+        if let Some(stopped) = self.stopped {
+            return Err(stopped);
+        }
+        match self.splitter.end() {
+            Ok(()) => self.take_ended(),
+            Err(SplitFault::Bad { unit, why }) => {
+                self.take_ended()?;
+                Err(self.stop(Stopped::Outside { unit, why }))
+            }
+            Err(SplitFault::Memory) => Err(self.stop(Stopped::Memory)),
+        }
+    }
+
+    /// Gives the bytes that are written for the next unit, start codes included, with the event of it. None comes where
+    /// all were taken. It takes no memory.
+    pub fn drain(&mut self) -> Option<(Vec<u8>, Event)>
+        ensures some { IfSome result (λ written. Drains self.old self.new record { form = written.0.items; event = written.1 }) }
+        ensures none { IfNone result ((waiting self.old ≡ []) × IsKept self.old self.new) }
+        ensures fewer { OnSome result (waiting_count self.new + 1 ≡ waiting_count self.old) }
+        ensures stopped { (stopped : _) → IsStopped self.old stopped → IsStopped self.new stopped }
+        ensures plan { plan_of self.new ≡ plan_of self.old }
+    {
+        self.forms.pop_front()
+    }
+
+    // Takes the units that have ended, up to the first that is refused.
+    fn take_ended(&mut self) -> Result<(), Stopped>
+        ensures ok { OnOk result (TakesAll self.old self.new) }
+        ensures err { IfErr result (TakingStops self.old self.new) }
+        ensures stopped { OnOk result (self.new.stopped ≡ self.old.stopped) }
+        ensures stops { IfErr result (λ e. self.new.stopped ≡ Some e) }
+        ensures plan { self.new.plan ≡ self.old.plan }
+    {
+        while let Some(unit) = self.splitter.take_unit() {
+            self.recode(&unit)?;
+        }
+        Ok(())
+    }
+
+    // Reads a unit, and puts what is written for it behind what waits.
+    fn recode(&mut self, unit: &[u8]) -> Result<(), Stopped>
+        ensures ok { OnOk result (Adds self.old self.new unit.now) }
+        ensures err { IfErr result (IsRefusedBy self.old unit.now) }
+        ensures waits { OnErr result (waiting self.new ≡ waiting self.old) }
+        ensures splitter { self.new.splitter ≡ self.old.splitter }
+        ensures stops { IfErr result (λ e. self.new.stopped ≡ Some e) }
+        ensures plan { self.new.plan ≡ self.old.plan }
+    {
+        let form = match unit_form(self.alloc, self.plan, &mut self.sets, unit) {
+            Ok(form) => form,
+            Err(fault) => return Err(self.refuse(fault)),
+        };
+        let event = event_of(unit, &form);
+        let Ok(()) = self.forms.push_back((form.bytes, event)) else {
+            return Err(self.stop(Stopped::Memory));
+        };
+        self.units = self.units.saturating_add(1);
+        Ok(())
+    }
+
+    // Stops at the next unit.
+    fn refuse(&mut self, fault: UnitFault) -> Stopped
+        ensures value { result ≡ stopped_at self.old.units fault }
+        ensures after { self.new ≡ record self.old { stopped = Some (stopped_at self.old.units fault) } }
+    {
+        match fault {
+            UnitFault::Outside(why) => self.stop(Stopped::Outside {
+                unit: self.units,
+                why,
+            }),
+            UnitFault::Memory => self.stop(Stopped::Memory),
+        }
+    }
+
+    // Stops for good.
+    fn stop(&mut self, stopped: Stopped) -> Stopped
+        ensures value { result ≡ stopped }
+        ensures after { self.new ≡ record self.old { stopped = Some stopped } }
+    {
+        self.stopped = Some(stopped);
+        stopped
+    }
+}
+
+// The event of a unit.
+fn event_of(unit: &[u8], form: &UnitForm) -> Event
+    ensures { result ≡ record { kind = unit_type unit.now; macroblocks = form.now.macroblocks; bytes_in = length unit.now; bytes_out = length form.now.bytes.items } }
+{
+    Event {
+        kind: unit_type(unit),
+        macroblocks: form.macroblocks,
+        bytes_in: unit.len() as u64,
+        bytes_out: form.bytes.len() as u64,
+    }
+}
