@@ -8,52 +8,22 @@
 # Wants python3 (3.8 or later), and rt in the first form. It runs on Linux alone, for it reads the peak memory in /proc.
 # The stream, one output and the bytes that are due stand in a temporary folder (TMPDIR, or /tmp), which needs room for
 # 160 MB.
-set -euo pipefail
-
-want() {
-    command -v "$1" >/dev/null || { echo "pcm.sh: $1 is wanted and isn't there: $2" >&2; exit 2; }
-}
-
-want python3 "it makes the stream and measures the runs"
-if [ $# -gt 0 ]; then
-    program=$(realpath "$1")
-else
-    want rt "it builds the program; or name a built one, as in bench/pcm.sh PROGRAM"
-    crate=$(cd "$(dirname "$0")/../crates/h264recode" && pwd)
-    program=$crate/out/h264recode
-    # Where nothing has changed since the last build, this only runs the program, on no input.
-    (cd "$crate" && rt run -- recode --to cavlc --table flat </dev/null >/dev/null) || {
-        echo "pcm.sh: rt did not build and run $program" >&2
-        exit 2
-    }
-fi
-[ -x "$program" ] || { echo "pcm.sh: no program $program" >&2; exit 2; }
-
-room=$(mktemp -d)
-trap 'rm -rf "$room"' EXIT
+. "$(dirname "$0")/program.sh"
 
 python3 - "$program" "$room" <<'PYTHON'
-import filecmp
-import os
 import random
-import re
-import subprocess
 import sys
-import time
+
+from measure import measure, unit
 
 PROGRAM, ROOM = sys.argv[1:]
-RECODE = [PROGRAM, "recode", "--to", "cavlc", "--table", "flat"]
-CAT = ["cat"]
 STREAM, OUTPUT, WANTED = f"{ROOM}/stream.264", f"{ROOM}/output", f"{ROOM}/wanted.264"
 BYTES = 50_000_000
 WIDTH, HEIGHT = 40, 30  # of a picture, in macroblocks
 MOST_SLICES = 8  # of a picture
-ROUNDS = 5
 # one macroblock in so many has samples of 0 to 3 alone, among which many bytes of emulation prevention stand
 DARK = 64
 DARKEN = bytes(value % 4 for value in range(256))
-# two zero bytes, where a byte of at most 3 follows
-EMULATION = re.compile(rb"\x00\x00(?=[\x00-\x03])")
 I_PCM = 25  # mb_type (Table 7-11)
 
 
@@ -71,11 +41,6 @@ def filled(bits):
     """These bits as bytes, with zero bits up to the byte boundary."""
     bits += "0" * (-len(bits) % 8)
     return bytes(int(bits[at : at + 8], 2) for at in range(0, len(bits), 8))
-
-
-def unit(header, payload):
-    """A unit with emulation prevention (7.3.1)."""
-    return bytes([header]) + EMULATION.sub(b"\0\0\3", payload)
 
 
 def seq_parameter_set():
@@ -138,44 +103,5 @@ def make_stream():
     return f"ok units {units} slices {count} macroblocks {macroblocks} in {read} out {written}"
 
 
-def seconds(command, output):
-    """The processor time of one run, user and system, and its report."""
-    with open(STREAM, "rb") as source, open(output, "wb") as sink:
-        with subprocess.Popen(command, stdin=source, stdout=sink, stderr=subprocess.PIPE) as run:
-            report = run.stderr.read().decode().strip()
-            _, run.returncode, usage = os.wait4(run.pid, 0)
-    if run.returncode:
-        sys.exit(f"pcm.sh: {command[0]} did not end well: {report}")
-    return usage.ru_utime + usage.ru_stime, report
-
-
-def peak_memory(command):
-    """The most memory that a run had, in KiB: the last value of VmHWM that is seen while it runs."""
-    peak = None
-    with open(STREAM, "rb") as source, open("/dev/null", "wb") as sink:
-        with subprocess.Popen(command, stdin=source, stdout=sink, stderr=subprocess.DEVNULL) as run:
-            while run.poll() is None:
-                with open(f"/proc/{run.pid}/status") as status:
-                    peak = next((line.split()[1] for line in status if line.startswith("VmHWM")), peak)
-                time.sleep(0.0002)
-    return peak
-
-
-wanted = make_stream()
-print(f"the stream: {wanted}")
-for output in "/dev/null", OUTPUT:
-    # In turn, so that both meet the same load; the least time of each counts. The first round warms the caches.
-    times = {"cat": [], "h264recode": []}
-    for _ in range(1 + ROUNDS):
-        times["cat"].append(seconds(CAT, output)[0])
-        taken, report = seconds(RECODE, output)
-        if report != wanted:
-            sys.exit(f"pcm.sh: the report is {report!r}")
-        if output == OUTPUT and not filecmp.cmp(OUTPUT, WANTED, shallow=False):
-            sys.exit("pcm.sh: the output isn't what is due")
-        times["h264recode"].append(taken)
-    cat, recode = (min(times[name][1:]) for name in ("cat", "h264recode"))
-    place = "to a file" if output == OUTPUT else f"to {output}"
-    print(f"{place}: cat {cat:.3f} s, h264recode {recode:.3f} s, ratio {recode / cat:.2f}")
-print(f"peak memory: cat {peak_memory(CAT)} KiB, h264recode {peak_memory(RECODE)} KiB")
+measure(PROGRAM, STREAM, make_stream(), OUTPUT, WANTED)
 PYTHON
