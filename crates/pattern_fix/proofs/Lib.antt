@@ -1,0 +1,4 @@
+pub mod Bits
+pub mod NormalLaws
+pub mod ValidLaws
+pub mod SliceLaws
