@@ -30,11 +30,11 @@ all_get P (x ∷ xs) (suc i) all h = all_get P xs i all.1 (omega arith)
 
 -- ---- the levels of a macroblock are in range
 
-two_all : (P : List ℤ → Type 0) (xs : List (List ℤ)) → length xs ≡ 2 → P (get_or xs 0 []) → P (get_or xs 1 []) → AllByRecursion P xs
-two_all P [] e p q = absurd (omega (arith, e))
-two_all P (x ∷ []) e p q = absurd (omega (arith, e))
-two_all P (x ∷ y ∷ []) e p q = (p, (q, tt))
-two_all P (x ∷ y ∷ z ∷ xs) e p q = absurd (omega (arith, e))
+pub two_all : {A : Type 0} (P : A → Type 0) (d : A) (xs : List A) → length xs ≡ 2 → P (get_or xs 0 d) → P (get_or xs 1 d) → AllByRecursion P xs
+two_all P d [] e p q = absurd (omega (arith, e))
+two_all P d (x ∷ []) e p q = absurd (omega (arith, e))
+two_all P d (x ∷ y ∷ []) e p q = (p, (q, tt))
+two_all P d (x ∷ y ∷ z ∷ xs) e p q = absurd (omega (arith, e))
 
 all_append : (P : ℤ → Type 0) (xs ys : List ℤ) → AllByRecursion P xs → AllByRecursion P ys → AllByRecursion P (xs ++ ys)
 all_append P [] ys p q = q
@@ -53,7 +53,7 @@ small_sixteen coded max bound block is =
     subst AreSmallLevels (take-append-drop max block)
     (all_append (λ l. magnitude l ≤ 65535) (take max block) (drop max block) (small_list coded max bound (take max block) is.levels) (subst AreSmallLevels (sym is.others) (small_zeros (16 - max))))
 
-each_turn : {S A : Type 0} (Is : S → A → Type 0) (next : S → A → S) (P : A → Type 0) → ((s : S) (x : A) → Is s x → P x) → (n : ℕ) (s : S) (xs : List A) → AreTurns Is next n s xs → AllByRecursion P xs
+pub each_turn : {S A : Type 0} (Is : S → A → Type 0) (next : S → A → S) (P : A → Type 0) → ((s : S) (x : A) → Is s x → P x) → (n : ℕ) (s : S) (xs : List A) → AreTurns Is next n s xs → AllByRecursion P xs
 unfolding AreTurns
 each_turn Is next P all zero s [] are = tt
 each_turn Is next P all zero s (x ∷ xs) are = absurd are
@@ -64,7 +64,7 @@ pub small_residual : (s : Bool) (p : Pattern) (bound : ℕ) (mb : Mb) → IsResi
 small_residual s p bound mb is = record {
   dc = small_list s 16 bound mb.dc is.dc;
   luma = each_turn (IsLumaBlock p.luma (max_of s) bound) counted AreSmallLevels (λ counts x h. small_sixteen (is_coded p.luma counts) (max_of s) bound x h) 16 [] (luma_blocks mb) is.luma;
-  chroma_dc = two_all AreSmallLevels mb.chroma_dc is.sizes.chroma_dc (small_list (has_chroma_dc p) 4 bound (dc_of 0 mb) is.cb_dc) (small_list (has_chroma_dc p) 4 bound (dc_of 1 mb) is.cr_dc);
+  chroma_dc = two_all AreSmallLevels [] mb.chroma_dc is.sizes.chroma_dc.0 (small_list (has_chroma_dc p) 4 bound (dc_of 0 mb) is.cb_dc) (small_list (has_chroma_dc p) 4 bound (dc_of 1 mb) is.cr_dc);
   cb_ac = each_turn (IsChromaBlock (has_chroma_ac p) bound) counted AreSmallLevels (λ counts x h. small_list (has_chroma_ac p) 15 bound x h) 4 [] (ac_of 0 mb) is.cb_ac;
   cr_ac = each_turn (IsChromaBlock (has_chroma_ac p) bound) counted AreSmallLevels (λ counts x h. small_list (has_chroma_ac p) 15 bound x h) 4 [] (ac_of 1 mb) is.cr_ac;
 }

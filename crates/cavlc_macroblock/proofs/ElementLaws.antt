@@ -1,5 +1,5 @@
 -- The texts of prediction modes and of coded_block_pattern.
-use Rattle.std.proofs.Common.{◌≡◌, ◌≢◌, ℕ, ◌+◌, ◌*◌, ◌<◌, ◌≤◌, ◌++◌, ◌∷◌, eqb, pos, negsuc, Bool, true, false, List, [], drop, get_or, Option, Some, None, refl, ap, sym, subst, ◌∙◌, arith, inl, inr}
+use Rattle.std.proofs.Common.{◌≡◌, ◌≢◌, ℕ, ◌+◌, ◌*◌, ◌<◌, ◌≤◌, ◌++◌, ◌∷◌, eqb, pos, negsuc, Bool, true, false, List, [], drop, get_or, Option, Some, None, refl, ap, sym, ◌∙◌, arith, inl, inr}
 use Rattle.std.specs.Prelude.{slice_get, option_map, nat_lt}
 use Rattle.bit_texts.proofs.Inverting.{some_is}
 use Rattle.std.proofs.lemmas.Bool.{false≢true, eqb-true, ltb-true, cases_eq}
@@ -93,12 +93,6 @@ IsPrefixFree-pattern v w x y p q e =
 
 pub pattern_exists : (p : Pattern) → IsPattern p → ((place : ℕ) → pattern_at true place ≢ Some p) → ⊥
 pattern_exists p is none = none (place_in (pattern_list true) (16 * p.chroma + p.luma)) (place_in-found p (omega (arith, is.0)) (omega (arith, is.1)))
-
-pub place_fits : (place : ℕ) (p : Pattern) → pattern_at true place ≡ Some p → place ≤ 47
-place_fits place p e =
-    let small = pattern_small true place p e in
-    let same = one_code true _ place p (place_in-found p small.0 small.1) e in
-    subst (λ k. k ≤ 47) same (place_in-small (16 * p.chroma + p.luma) (omega (arith, small.0, small.1)))
 
 pub IsPrefixFree-qp_delta : IsPrefixFree IsQpDelta se
 IsPrefixFree-qp_delta = IsPrefixFree-same (IsIn (Se (negsuc 25) (pos 25))) IsQpDelta se (λ v h. in_se (negsuc 25) (pos 25) v h.0 h.1 (omega arith) (omega arith)) (IsPrefixFree-code (Se (negsuc 25) (pos 25)))

@@ -7,3 +7,6 @@ pub mod Unique
 pub mod CountLaws
 pub mod ElementLaws
 pub mod BeyondLaws
+pub mod Searching
+pub mod LayerSearching
+pub mod ValidLaws

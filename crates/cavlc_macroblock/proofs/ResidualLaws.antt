@@ -2,8 +2,7 @@
 use Rattle.std.proofs.Common.{◌≡◌, ◌⊎◌, ℕ, zero, suc, ◌+◌, ◌-◌, ◌<◌, ◌≤◌, ◌++◌, ℤ, pos, Bool, true, false, List, [], ◌∷◌, length, take, drop, refl, ap, sym, subst, ◌∙◌, arith, inl, inr, cond, get_or, Option, Some, None}
 use Rattle.std.specs.Prelude.{filter, replicate, IfSome}
 use Rattle.std.specs.Option.{option_map}
-use Rattle.std.proofs.lemmas.List.{take-append-drop, append-nil, length-replicate}
-use Rattle.std.proofs.lemmas.List.Elements.{filter-append}
+use Rattle.std.proofs.lemmas.List.{take-append-drop, length-replicate}
 use Rattle.bit_texts.specs.Texts.{Reads, Completes, AreTurns, IsPrefixFree}
 use Rattle.bit_texts.proofs.Turns.{Completes-start, AreTurns-drop, IsPrefixFree-turns}
 use Rattle.bit_texts.proofs.Reading.{IsPrefixFree-when}
@@ -42,14 +41,6 @@ IsPrefixFree-chroma_blocks sides coded bound within = IsPrefixFree-turns (IsChro
 filter-zeros : (n : ℕ) → filter is_nonzero (replicate n (pos 0)) ≡ []
 filter-zeros zero = refl
 filter-zeros (suc n) = filter-zeros n
-
--- zeros behind the levels don't count
-pub total_coeff-take : (max : ℕ) (block : List ℤ) (n : ℕ) → drop max block ≡ replicate n (pos 0) → total_coeff block ≡ total_coeff (take max block)
-total_coeff-take max block n zeros =
-    let parts : filter is_nonzero block ≡ filter is_nonzero (take max block) ++ [] =
-    ap (filter is_nonzero) (sym (take-append-drop max block)) ∙ filter-append is_nonzero (take max block) (drop max block)
-    ∙ ap (λ t. filter is_nonzero (take max block) ++ t) (ap (filter is_nonzero) zeros ∙ filter-zeros n) in
-    ap length (parts ∙ append-nil (filter is_nonzero (take max block)))
 
 pub total_coeff-most : (levels : List ℤ) → total_coeff levels ≤ length levels
 total_coeff-most [] = omega arith

@@ -23,7 +23,7 @@ use Rattle.std.specs.Prelude.{replicate}
 
 -- ---- the luma quarters are those of their blocks
 
-in_block : (x : List ℤ) (i : ℕ) (d : ℤ) → get_or (block_of x (i / 16)) (i % 16) d ≡ get_or x i d
+pub in_block : (x : List ℤ) (i : ℕ) (d : ℤ) → get_or (block_of x (i / 16)) (i % 16) d ≡ get_or x i d
 in_block x i d =
     get_or-take 16 (drop (16 * (i / 16)) x) (i % 16) d (omega arith) ∙ get_or-drop (16 * (i / 16)) x (i % 16) d ∙ ap (λ k. get_or x k d) (omega arith)
 
@@ -52,7 +52,7 @@ same_luma v w p q e =
     subst (λ r. P r k) row (subst (P (n / 4)) place block)) in
     get_or_default v.luma i d [] below ∙ quarter ∙ get_or_default w.luma i [] d other)
 
-same_two : {A : Type 0} (d : A) (xs ys : List A) → length xs ≡ 2 → length ys ≡ 2 → get_or xs 0 d ≡ get_or ys 0 d → get_or xs 1 d ≡ get_or ys 1 d → xs ≡ ys
+pub same_two : {A : Type 0} (d : A) (xs ys : List A) → length xs ≡ 2 → length ys ≡ 2 → get_or xs 0 d ≡ get_or ys 0 d → get_or xs 1 d ≡ get_or ys 1 d → xs ≡ ys
 same_two d xs ys e f first second =
     same_lists xs ys (e ∙ sym f) (λ i c below. at i c (omega (arith, below, e)))
   where
@@ -85,8 +85,8 @@ IsPrefixFree-residual around s p bound old within =
         let sw = r.0.0.0.0.0.0.0.sizes in
         q.0.0.0.0.0.0.1
         ∙ same_residual old v w (q.0.0.0.0.0.1 ∙ sym r.0.0.0.0.0.1) (same_luma v w sv sw (q.0.0.0.0.1 ∙ sym r.0.0.0.0.1))
-        (same_two [] v.chroma_dc w.chroma_dc sv.chroma_dc sw.chroma_dc (q.0.0.0.1 ∙ sym r.0.0.0.1) (q.0.0.1 ∙ sym r.0.0.1))
-        (same_two [] v.chroma_ac w.chroma_ac sv.chroma_ac sw.chroma_ac (q.0.1 ∙ sym r.0.1) (q.1 ∙ sym r.1))
+        (same_two [] v.chroma_dc w.chroma_dc sv.chroma_dc.0 sw.chroma_dc.0 (q.0.0.0.1 ∙ sym r.0.0.0.1) (q.0.0.1 ∙ sym r.0.0.1))
+        (same_two [] v.chroma_ac w.chroma_ac sv.chroma_ac.0 sw.chroma_ac.0 (q.0.1 ∙ sym r.0.1) (q.1 ∙ sym r.1))
         ∙ sym r.0.0.0.0.0.0.1
 
 -- ---- the layer

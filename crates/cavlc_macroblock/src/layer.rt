@@ -1,18 +1,15 @@
-ghost use Rattle.std.specs.Prelude.{◌≡◌, ◌≢◌, ◌↔◌, ◌≤◌, ◌++◌, true, option_map, Err};
-ghost use Rattle.cavlc_residual.specs.declared.fault.BlockFault.TheVariants as BlockFault;
+ghost use Rattle.std.specs.Prelude.{◌≡◌, ◌≤◌, ◌++◌, option_map};
 ghost use Rattle.bit_texts.specs.Texts.{Reads, Appends};
 ghost use Rattle.h264_types.specs.Kind.{is_i_nxn, is_i_16x16};
 ghost use Rattle.cavlc_macroblock.specs.Counts.{IsAround};
 ghost use Rattle.cavlc_macroblock.specs.MacroblockLayer as layer;
 
-use crate::beyond::is_beyond;
 use crate::counts::Around;
 use crate::pattern::{
     read_pattern_if, read_qp_delta_if, sends_qp_delta, write_pattern_if, write_qp_delta_if,
 };
 use crate::prediction::{read_modes_if, write_modes_if};
 use crate::residual::{read_residual, write_residual};
-use cavlc_residual::BlockFault;
 use exp_golomb::{BitSink, BitSource, read_ue, write_ue};
 use h264_types::{Mb, MbKind};
 use std::alloc::AllocError as Memory;
@@ -43,8 +40,9 @@ pub fn read_layer<B: BitSource>(
     read_residual(bits, around, bound, mb)
 }
 
-/// Appends the text of a macroblock behind its mb_type.
-fn write_elements<B: BitSink>(bits: &mut B, around: &Around, mb: &Mb) -> Result<(), Memory>
+/// Appends the text of a macroblock behind its mb_type, as `read_layer` reads it. Where memory runs out a front of the
+/// text is written. Whether a level needs a level_prefix above a lower bound than 20 is what `is_beyond` tells before.
+pub fn write_layer<B: BitSink>(bits: &mut B, around: &Around, mb: &Mb) -> Result<(), Memory>
     requires around { IsAround around.now }
     requires layer { layer.IsLayer mb.now.kind mb.now.field 20 mb.now }
     ensures { Appends (B.bits bits.old) (B.bits bits.new) (layer.layer_text around.now mb.now.kind mb.now) result }
@@ -56,27 +54,4 @@ fn write_elements<B: BitSink>(bits: &mut B, around: &Around, mb: &Mb) -> Result<
     write_pattern_if(bits, is_nxn, mb.pattern)?;
     write_qp_delta_if(bits, has_delta, mb.qp_delta)?;
     write_residual(bits, around, mb)
-}
-
-/// Appends the text of a macroblock behind its mb_type, as `read_layer` reads it. Beyond is answered exactly where some
-/// level needs a level_prefix above `bound`, and then nothing is written. Where memory runs out a front of the text is
-/// written.
-pub fn write_layer<B: BitSink>(
-    bits: &mut B,
-    around: &Around,
-    bound: u8,
-    mb: &Mb,
-) -> Result<(), BlockFault>
-    requires around { IsAround around.now }
-    requires within { bound ≤ 20 }
-    requires layer { layer.IsLayer mb.now.kind mb.now.field 20 mb.now }
-    ensures beyond { (result ≡ Err BlockFault.Beyond) ↔ (layer.is_beyond_mb bound mb.now ≡ true) }
-    ensures unwritten { result ≡ Err BlockFault.Beyond → B.bits bits.new ≡ B.bits bits.old }
-    ensures written { result ≢ Err BlockFault.Beyond → Appends (B.bits bits.old) (B.bits bits.new) (layer.layer_text around.now mb.now.kind mb.now) result }
-{
-    if is_beyond(mb, bound) {
-        return Err(BlockFault::Beyond);
-    }
-    write_elements(bits, around, mb)?;
-    Ok(())
 }

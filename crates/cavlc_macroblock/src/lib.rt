@@ -16,9 +16,9 @@ mod prediction;
 mod residual;
 
 pub use beyond::is_beyond;
-pub use cavlc_residual::BlockFault;
 pub use counts::{Around, Counts, Sides};
 pub use layer::{read_layer, write_layer};
+pub use residual::has_sizes;
 
 #[cfg(test)]
 mod tests;

@@ -1,5 +1,4 @@
-ghost use Rattle.std.specs.Prelude.{◌≡◌, ◌≤◌, ◌++◌, ℕ, negsuc, length, option_map};
-ghost use Rattle.std.specs.List.{AllByRecursion};
+ghost use Rattle.std.specs.Prelude.{◌≡◌, ◌≤◌, ◌++◌, ℕ, negsuc, length, option_map, All};
 ghost use Rattle.bit_texts.specs.Texts.{Reads, Appends};
 ghost use Rattle.h264_types.specs.Kind.{is_i_16x16};
 ghost use Rattle.h264_types.specs.Macroblock.{pattern_of};
@@ -17,18 +16,31 @@ use h264_types::Mb;
 use mb_neighbours::At;
 use std::alloc::AllocError as Memory;
 
-fn is_quarter(levels: &[i32; 64])
-    ensures { length levels.now ≡ 64 }
+fn has_size<T: Copy, const N: usize>(list: &[T; N])
+    ensures { length list.now ≡ N }
 {}
 
-/// The lists of a macroblock are as long as their types say.
-fn has_sizes(mb: &Mb)
+/// Each list of a list of lists is as long as the arrays of its type.
+fn have_sizes<T: Copy, const N: usize, const M: usize>(lists: &[[T; N]; M])
+    ensures count { length lists.now ≡ M }
+    ensures each { All (λ list. length list ≡ N) lists.now }
+{
+    for list in lists {
+        has_size(list);
+    }
+}
+
+/// The lists of a macroblock are as long as its arrays.
+pub fn has_sizes(mb: &Mb)
     ensures { layer.HasSizes mb.now }
 {
-    is_quarter(&mb.luma[0]);
-    is_quarter(&mb.luma[1]);
-    is_quarter(&mb.luma[2]);
-    is_quarter(&mb.luma[3]);
+    have_sizes(&mb.refs);
+    have_sizes(&mb.mvd[0]);
+    have_sizes(&mb.mvd[1]);
+    have_sizes(&mb.luma);
+    have_sizes(&mb.chroma_dc);
+    have_sizes(&mb.chroma_ac[0]);
+    have_sizes(&mb.chroma_ac[1]);
 }
 
 /// Reads Intra16x16DCLevel where it is sent, and else puts levels 0.

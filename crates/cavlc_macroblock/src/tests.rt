@@ -29,7 +29,7 @@ fn read_and_written(
         return Ok(Vec::new(alloc));
     };
     let mut text = BitVec::new(alloc);
-    write_layer(&mut text, around, 20, mb)?;
+    write_layer(&mut text, around, mb)?;
     for _zero in 0..7u8 {
         if !text.aligned() {
             text.put(false)?;

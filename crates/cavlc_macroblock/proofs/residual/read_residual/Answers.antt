@@ -57,8 +57,8 @@ returns-clause-reads g c =
     let dcs = slice_set (slice_set luma.chroma_dc 0 c.read_chroma_dc.new.levels) 1 c.read_chroma_dc-2.new.levels in
     let acs = slice_set (slice_set luma.chroma_ac 0 c.read_chroma.new.blocks) 1 c.read_chroma-2.new.blocks in
     let new : Mb = record luma { chroma_dc = dcs; chroma_ac = acs } in
-    let dc = two_set luma.chroma_dc c.read_chroma_dc.new.levels c.read_chroma_dc-2.new.levels [] c.has_sizes.ensures.chroma_dc in
-    let ac = two_set luma.chroma_ac c.read_chroma.new.blocks c.read_chroma-2.new.blocks [] c.has_sizes.ensures.chroma_ac in
+    let dc = two_set luma.chroma_dc c.read_chroma_dc.new.levels c.read_chroma_dc-2.new.levels [] c.has_sizes.ensures.chroma_dc.0 in
+    let ac = two_set luma.chroma_ac c.read_chroma.new.blocks c.read_chroma-2.new.blocks [] c.has_sizes.ensures.chroma_ac.0 in
     known_as c.args.around.now _ _ _ _ c.args.bound c.args.mb.now (g.B.BitSource.left c.args.bits.now) (g.B.BitSource.left c.read_chroma-2.new.bits) (Some new) (Some new) c.is_i_16x16-is_16x16.ensures c.coded_pattern-pattern.ensures refl
     (residual_is_read c.args.around.now c.is_i_16x16-is_16x16.result c.coded_pattern-pattern.result c.args.bound c.args.mb.now new c.requires.within c.has_sizes.ensures (ap (λ (m : Mb). record m { dc = luma.dc; luma = luma.luma; chroma_dc = dcs; chroma_ac = acs }) rest) c.max_levels-max.result c.max_levels-max.ensures c.read_luma_dc.new.levels (luma_blocks c.read_luma.new.mb) c.read_chroma_dc.new.levels c.read_chroma_dc-2.new.levels c.read_chroma.new.blocks c.read_chroma-2.new.blocks
     (g.B.BitSource.left c.args.bits.now) (g.B.BitSource.left c.read_luma_dc.new.bits) (g.B.BitSource.left c.read_luma.new.bits) (g.B.BitSource.left c.read_chroma_dc.new.bits) (g.B.BitSource.left c.read_chroma_dc-2.new.bits) (g.B.BitSource.left c.read_chroma.new.bits) (g.B.BitSource.left c.read_chroma-2.new.bits)
