@@ -125,9 +125,6 @@ alignment_more now new h put =
     let gap : (8 - length now % 8) % 8 ≡ suc ((8 - length new % 8) % 8) = rw size (gap_more (length now) h) in
     rw gap refl
 
-pub alignment_none : (n : ℕ) → n % 8 ≡ 0 → alignment n ≡ []
-alignment_none n h = rw h refl
-
 -- what stands behind the stop bit
 pub stop_parts : (before put : List Bool) → Appended before put (true ∷ []) → stop_text (length before) ≡ (true ∷ []) ++ alignment (length put)
 stop_parts before put one =

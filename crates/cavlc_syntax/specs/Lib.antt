@@ -1,6 +1,6 @@
 pub mod Macroblock
 pub mod SliceText
-pub mod Unbuilt
 pub mod Reading
+pub mod Row
 pub mod Written
 pub mod Standing

@@ -1,10 +1,14 @@
 -- The text of a macroblock (ITU-T H.264, 7.3.5).
-use Rattle.std.specs.Prelude.{◌≡◌, ℕ, ◌+◌, ◌-◌, ◌%◌, ◌≤◌, Bool, false, List, ◌++◌, length, replicate, All}
+use Rattle.std.specs.Prelude.{◌≡◌, ℕ, ◌+◌, ◌-◌, ◌%◌, ◌≤◌, if◌then◌else◌, Bool, false, List, ◌++◌, length, replicate, All}
 use Rattle.bit_texts.specs.Bits.{bits_of}
+use Rattle.cavlc_macroblock.specs.MacroblockLayer.{layer_text}
+use Rattle.cavlc_macroblock.specs.declared.counts.Around.{Around}
 use Rattle.exp_golomb.specs.Code.{ue}
-use Rattle.h264_types.specs.declared.macroblock.Mb.{Mb}
-use Rattle.h264_types.specs.declared.macroblock.MbKind.TheVariants.{Intra}
+use Rattle.h264_types.specs.Kind.{is_i_pcm}
 use Rattle.h264_types.specs.Macroblock.{no_elements}
+use Rattle.h264_types.specs.declared.macroblock.Mb.{Mb}
+use Rattle.h264_types.specs.declared.macroblock.MbKind.{MbKind}
+use Rattle.h264_types.specs.declared.macroblock.MbKind.TheVariants.{Skip, Intra, P, B}
 
 -- an I_PCM macroblock of these samples
 abbrev pub i_pcm : List ℕ → Mb
@@ -28,10 +32,20 @@ alignment pos = replicate ((8 - pos % 8) % 8) false
 abbrev pub pcm_text : ℕ → Mb → List Bool
 pcm_text pos mb = alignment pos ++ bits_of mb.pcm
 
--- mb_type of I_PCM
-abbrev pub i_pcm_type : List Bool
-i_pcm_type = ue 25
+-- mb_type in I slices (Table 7-11)
+abbrev pub type_of : MbKind → ℕ
+type_of (Intra number) = number
+type_of Skip = 0
+type_of (P number) = 0
+type_of (B number) = 0
 
--- macroblock_layer of an I_PCM macroblock, with `pos` bits before it
-unfoldable pub layer_text : ℕ → Mb → List Bool
-layer_text pos mb = i_pcm_type ++ pcm_text (pos + length i_pcm_type) mb
+abbrev pub type_text : MbKind → List Bool
+type_text kind = ue (type_of kind)
+
+-- what stands behind mb_type and `pos` bits: samples, or prediction modes, coded_block_pattern, mb_qp_delta and residual
+abbrev pub behind_type : Around → ℕ → Mb → List Bool
+behind_type around pos mb = if is_i_pcm mb.kind then pcm_text pos mb else layer_text around mb.kind mb
+
+-- macroblock_layer, with `pos` bits before it, where `around` tells what the blocks beside the macroblock count
+unfoldable pub macroblock_text : Around → ℕ → Mb → List Bool
+macroblock_text around pos mb = type_text mb.kind ++ behind_type around (pos + length (type_text mb.kind)) mb

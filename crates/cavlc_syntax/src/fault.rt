@@ -10,9 +10,6 @@ pub enum SliceFault {
     /// No list of macroblocks has the bits of the slice data as its text.
     #[error("no macroblocks have this text")]
     NoReading,
-    /// Behind none or more I_PCM macroblocks stands one of a type that isn't read yet.
-    #[error("macroblocks of this type are not read yet")]
-    Unbuilt,
     /// No memory was left.
     #[error("out of memory")]
     Memory,
@@ -21,6 +18,9 @@ pub enum SliceFault {
 /// Why a macroblock wasn't written.
 #[derive(Clone, Copy, Debug, PartialEq, Eq, Error)]
 pub enum PutFault {
+    /// A level needs a longer level_prefix than the profile has (9.2.2.1).
+    #[error("a level is beyond the escape of CAVLC")]
+    Beyond,
     /// No memory was left.
     #[error("out of memory")]
     Memory,

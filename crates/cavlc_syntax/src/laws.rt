@@ -1,11 +1,11 @@
 //! What the layers above rest on: the text of slice data is that of one list, fills bytes, ends in the stop bit, and
 //! doesn't rest on the column of the contexts of CABAC.
 ghost use Rattle.std.specs.Prelude.{◌≡◌, ◌⊎◌, ◌+◌, ◌%◌, ◌<◌, ◌++◌, ◌∷◌, ℕ, Bool, true, false, List, length, replicate};
+ghost use Rattle.cavlc_macroblock.specs.Counts.{around_of};
 ghost use Rattle.h264_types.specs.declared.macroblock.Mb.{Mb};
 ghost use Rattle.h264_types.specs.declared.slice_shape.SliceShape.{SliceShape};
 ghost use Rattle.h264_types.specs.SliceShape.{without_column};
 ghost use Rattle.cavlc_syntax.specs.SliceText.{IsBuiltShape, HasText, slice_text, NoList};
-ghost use Rattle.cavlc_syntax.specs.Unbuilt.{IsUnbuilt};
 
 /// No bits are the text of two lists.
 pub fn one_list()
@@ -28,13 +28,12 @@ pub fn text_without_column()
     ensures texts { (first second : SliceShape) (pos : ℕ) (mbs : List Mb) → without_column first ≡ without_column second → slice_text first pos mbs ≡ slice_text second pos mbs }
 {}
 
-/// Slice data that go on with a macroblock that isn't read yet are the text of no list.
-pub fn unbuilt_is_no_text()
-    ensures { (shape : SliceShape) (pos : ℕ) (bits : List Bool) → IsUnbuilt shape pos bits → NoList shape pos bits }
+/// Bits are the text of a list, or of none.
+pub fn bits_are_decided()
+    ensures { (shape : SliceShape) (pos : ℕ) (bits : List Bool) → IsBuiltShape shape → ((mbs : List Mb) × HasText shape mbs × (bits ≡ slice_text shape pos mbs)) ⊎ NoList shape pos bits }
 {}
 
-/// Bits are the text of a list, go on with a macroblock that isn't read yet, or are neither.
-pub fn bits_are_decided()
-    ensures { (shape : SliceShape) (pos : ℕ) (bits : List Bool) → IsBuiltShape shape →
-        ((mbs : List Mb) × HasText shape mbs × (bits ≡ slice_text shape pos mbs)) ⊎ (IsUnbuilt shape pos bits ⊎ (NoList shape pos bits × (IsUnbuilt shape pos bits → ⊥))) }
+/// What stands around a macroblock in the whole list is what the list before it tells.
+pub fn the_list_before_tells_counts()
+    ensures { (shape : SliceShape) (before : List Mb) (mb : Mb) (behind : List Mb) → shape.mbaff ≡ false → 0 < shape.width → around_of shape (before ++ mb ∷ behind) (length before) ≡ around_of shape before (length before) }
 {}

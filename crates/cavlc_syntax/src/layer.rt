@@ -1,19 +1,22 @@
 //! One macroblock, and the end of a slice.
-ghost use Rattle.std.specs.Prelude.{◌≡◌, ◌++◌, [], length, option_map, MatchBool};
+ghost use Rattle.std.specs.Prelude.{◌≡◌, ◌≤◌, ◌++◌, [], length, option_map, MatchBool};
 ghost use Rattle.bit_texts.specs.Cursor.{cursor};
 ghost use Rattle.bit_texts.specs.Readings.{Gives};
 ghost use Rattle.bit_texts.specs.Texts.{Appends};
-ghost use Rattle.cavlc_syntax.specs.Macroblock.{alignment, pcm_text, layer_text};
-ghost use Rattle.cavlc_syntax.specs.Reading.{alignment_at, pcm_at, stop_at};
+ghost use Rattle.cavlc_macroblock.specs.Counts.{IsAround};
+ghost use Rattle.cavlc_syntax.specs.Macroblock.{alignment, pcm_text, type_text, macroblock_text};
+ghost use Rattle.cavlc_syntax.specs.Reading.{alignment_at, pcm_at, stop_at, IsRead, ReadsMacroblock};
+ghost use Rattle.cavlc_syntax.specs.Standing.{place_in};
 ghost use Rattle.cavlc_syntax.specs.SliceText.{stop_text};
 
 use crate::samples::{read_samples, write_samples};
-use exp_golomb::{BitSink, BitSource, read_flag, write_ue};
+use cavlc_macroblock::{Around, read_layer, write_layer};
+use exp_golomb::{BitSink, BitSource, read_flag, read_ue, write_ue};
 use h264_types::{Mb, MbKind};
 use std::alloc::AllocError as Memory;
 
 /// mb_type of I_PCM in I slices (Table 7-11).
-pub const I_PCM: u32 = 25;
+const I_PCM: u32 = 25;
 
 /// Takes zero bits up to the byte boundary. None where others stand there.
 fn read_alignment<B: BitSource>(bits: &mut B) -> Option<()>
@@ -29,7 +32,7 @@ fn read_alignment<B: BitSource>(bits: &mut B) -> Option<()>
 
 /// Reads an I_PCM macroblock behind its mb_type, into the one that is lent.
 #[tactic(auto, unfolding(crate::specs::Reading::pcm_at))]
-pub fn read_pcm<B: BitSource>(bits: &mut B, mb: &mut Mb) -> Option<()>
+fn read_pcm<B: BitSource>(bits: &mut B, mb: &mut Mb) -> Option<()>
     ensures { Gives (option_map (λ _. mb.new) result) (cursor (length (B.taken bits.new)) (B.left bits.new)) (pcm_at (cursor (length (B.taken bits.old)) (B.left bits.old))) }
 {
     read_alignment(bits)?;
@@ -38,6 +41,25 @@ pub fn read_pcm<B: BitSource>(bits: &mut B, mb: &mut Mb) -> Option<()>
         return None;
     };
     Some(())
+}
+
+/// Reads a macroblock, its mb_type first, into the one that is lent. None: no macroblock has a text, with no level_prefix
+/// above `bound`, that begins the bits left; what the macroblock then holds isn't said.
+pub fn read_macroblock<B: BitSource>(
+    bits: &mut B,
+    around: &Around,
+    bound: u8,
+    mb: &mut Mb,
+) -> Option<()>
+    requires around { IsAround around.now }
+    requires within { bound ≤ 20 }
+    ensures { ReadsMacroblock around.now bound (place_in B.taken B.left bits.old) result mb.new (place_in B.taken B.left bits.new) }
+{
+    let mb_type = read_ue(bits, I_PCM)?;
+    if mb_type == I_PCM {
+        return read_pcm(bits, mb);
+    }
+    read_layer(bits, around, bound, MbKind::Intra(mb_type as u8), false, mb)
 }
 
 /// Takes the stop bit and zero bits up to the byte boundary.
@@ -82,13 +104,29 @@ fn write_pcm<B: BitSink>(bits: &mut B, mb: &Mb) -> Result<(), Memory>
     write_samples(bits, &mb.pcm)
 }
 
-/// Appends the text of an I_PCM macroblock.
-#[tactic(auto, unfolding(crate::specs::Macroblock::layer_text))]
-pub fn write_layer<B: BitSink>(bits: &mut B, mb: &Mb) -> Result<(), Memory>
-    ensures { Appends (B.bits bits.old) (B.bits bits.new) (layer_text (length (B.bits bits.old)) mb.now) result }
+/// Appends mb_type.
+fn write_type<B: BitSink>(bits: &mut B, kind: MbKind) -> Result<(), Memory>
+    ensures { Appends (B.bits bits.old) (B.bits bits.new) (type_text kind) result }
 {
-    write_ue(bits, I_PCM)?;
-    write_pcm(bits, mb)
+    let mb_type = match kind {
+        MbKind::Intra(number) => u32::from(number),
+        MbKind::Skip | MbKind::P(_) | MbKind::B(_) => 0,
+    };
+    write_ue(bits, mb_type)
+}
+
+/// Appends the text of a macroblock.
+pub fn write_macroblock<B: BitSink>(bits: &mut B, around: &Around, mb: &Mb) -> Result<(), Memory>
+    requires around { IsAround around.now }
+    requires read { IsRead 20 mb.now }
+    ensures { Appends (B.bits bits.old) (B.bits bits.new) (macroblock_text around.now (length (B.bits bits.old)) mb.now) result }
+{
+    write_type(bits, mb.kind)?;
+    if mb.kind.is_i_pcm() {
+        write_pcm(bits, mb)
+    } else {
+        write_layer(bits, around, mb)
+    }
 }
 
 /// Appends the stop bit and zero bits up to the byte boundary.

@@ -1,9 +1,12 @@
 //! The data of a slice, read one macroblock at a time.
-ghost use Rattle.std.specs.Prelude.{◌≤◌, ◌*◌};
+ghost use Rattle.std.specs.Prelude.{◌≡◌, length};
+ghost use Rattle.cavlc_syntax.specs.Row.{IsInRows};
 
+use crate::bound::prefix_bound;
 use crate::fault::SliceFault;
-use crate::layer::{I_PCM, read_end, read_pcm};
-use exp_golomb::{BitSource, read_ue};
+use crate::layer::{read_end, read_macroblock};
+use crate::row::CountRow;
+use exp_golomb::BitSource;
 use h264_types::{Mb, MbKind, SliceShape};
 use std::alloc::{AllocError as Memory, Global};
 
@@ -22,29 +25,32 @@ pub struct CavlcReader<B> {
     bits: B,
     /// How many macroblocks were given.
     count: u32,
-    ghost size: { shape.width * shape.height ≤ 139264 },
+    row: CountRow,
+    ghost in_rows: { IsInRows shape },
+    ghost kept: { length row.counts.items ≡ shape.width },
 }
 
 impl<B: BitSource> CavlcReader<B> {
     ghost use Rattle.std.specs.Prelude.{◌≡◌, ◌↔◌, ◌<◌, ◌+◌, ◌*◌, ◌∷◌, ◌++◌, [], ℕ, Bool, List, IsTrue, true, false, MatchBool, if◌then◌else◌, length, IfOk};
-    ghost use Rattle.std.specs.List.{list_any};
     ghost use Rattle.bit_texts.specs.Bits.{more_data};
     ghost use Rattle.h264_types.specs.declared.macroblock.Mb.{Mb};
     ghost use Rattle.h264_types.specs.declared.slice_shape.SliceShape.{SliceShape};
-    ghost use Rattle.cavlc_syntax.specs.declared.fault.SliceFault.TheVariants.{NoReading, Unbuilt};
+    ghost use Rattle.cavlc_syntax.specs.declared.fault.SliceFault.TheVariants.{NoReading};
     ghost use Rattle.cavlc_syntax.specs.SliceText.{IsBuiltShape};
     ghost use Rattle.cavlc_syntax.specs.Standing.{place_in, StandsFor, NextGives, step_of};
 
     /// A reader of the slice data that are left in `bits`, which go on to their end. Takes no bit.
-    pub fn start(_alloc: Global, shape: SliceShape, bits: B) -> Result<CavlcReader<B>, Memory>
+    pub fn start(alloc: Global, shape: SliceShape, bits: B) -> Result<CavlcReader<B>, Memory>
         requires { IsBuiltShape shape }
         ensures stands { IfOk result (λ reader. StandsFor (place_in B.taken B.left) reader shape (length (B.taken bits)) (B.left bits) []) }
         ensures bits { IfOk result (λ reader. reader.bits ≡ bits) }
     {
+        let row = CountRow::new(alloc, &shape)?;
         Ok(CavlcReader {
             shape,
             bits,
             count: 0,
+            row,
         })
     }
 
@@ -54,13 +60,16 @@ impl<B: BitSource> CavlcReader<B> {
             → NextGives (place_in B.taken B.left) self.new shape pos all done result }
     {
         let mut mb = Mb::without_elements(MbKind::Skip);
-        let more = self.next_into(&mut mb)?;
-        Ok(if more { Step::Mb(mb) } else { Step::End })
+        match self.next_into(&mut mb) {
+            Ok(true) => Ok(Step::Mb(mb)),
+            Ok(false) => Ok(Step::End),
+            Err(fault) => Err(fault),
+        }
     }
 
     /// Fills `mb`, wholly, with the next macroblock, or answers false at the end of the slice, where no bit is left.
-    /// NoReading: no list of macroblocks has the bits behind the header as its text. Unbuilt: none or more I_PCM macroblocks could be read,
-    /// and then one of another type would stand. After a refusal what the reader and `mb` hold isn't said.
+    /// NoReading: no list of macroblocks has the bits behind the header as its text. After a refusal what the reader and
+    /// `mb` hold isn't said.
     pub fn next_into(&mut self, mb: &mut Mb) -> Result<bool, SliceFault>
         ensures { (shape : SliceShape) (pos : ℕ) (all : List Bool) (done : List Mb) → StandsFor (place_in B.taken B.left) self.old shape pos all done
             → NextGives (place_in B.taken B.left) self.new shape pos all done (step_of mb.new result) }
@@ -75,15 +84,12 @@ impl<B: BitSource> CavlcReader<B> {
         if !self.has_room() {
             return Err(SliceFault::NoReading);
         }
-        let Some(mb_type) = read_ue(&mut self.bits, I_PCM) else {
+        let around = self.row.around(&self.shape, self.count);
+        let bound = prefix_bound(&self.shape);
+        let Some(()) = read_macroblock(&mut self.bits, &around, bound, mb) else {
             return Err(SliceFault::NoReading);
         };
-        if mb_type != I_PCM {
-            return Err(self.other_type());
-        }
-        let Some(()) = read_pcm(&mut self.bits, mb) else {
-            return Err(SliceFault::NoReading);
-        };
+        self.row.push(&self.shape, self.count, mb);
         self.count += 1;
         Ok(true)
     }
@@ -102,17 +108,6 @@ impl<B: BitSource> CavlcReader<B> {
     {
         let size = self.shape.width * self.shape.height;
         self.shape.first < size && self.count < size - self.shape.first
-    }
-
-    /// What to answer behind an mb_type other than I_PCM.
-    fn other_type(&mut self) -> SliceFault
-        ensures { result ≡ (if list_any (λ bit. bit) (B.left self.old.bits) then Unbuilt else NoReading) }
-    {
-        if self.bits.more_rbsp_data() || self.bits.bit() == Some(true) {
-            SliceFault::Unbuilt
-        } else {
-            SliceFault::NoReading
-        }
     }
 
     /// The source of bits, as it is.

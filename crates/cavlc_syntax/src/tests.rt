@@ -1,16 +1,18 @@
-ghost use Rattle.std.specs.Prelude.{◌≤◌};
+ghost use Rattle.std.specs.Prelude.{◌≡◌, ◌≤◌, ◌⊎◌};
 ghost use Rattle.cavlc_syntax.specs.SliceText.{IsBuiltShape};
 
 use super::*;
+use cavlc_macroblock::has_sizes;
 use exp_golomb::{BitSink, BitSource, BitVec, SliceBits};
-use h264_types::{Mb, MbKind, SliceKind, SliceShape};
+use h264_types::{Mb, MbKind, SliceKind, SliceShape, valid};
 use std::alloc::Global;
 use std::test::Fail;
 
 /// An I slice that begins a picture of one row.
-fn row_of(width: u32) -> SliceShape
+fn row_of(width: u32, profile: u8) -> SliceShape
     requires some { 1 ≤ width }
     requires few { width ≤ 3 }
+    requires profile { (profile ≡ 77) ⊎ (profile ≡ 100) }
     ensures { IsBuiltShape result }
 {
     SliceShape {
@@ -23,7 +25,7 @@ fn row_of(width: u32) -> SliceShape
         refs: [0, 0],
         t8_mode: false,
         direct8: true,
-        profile: 77,
+        profile,
         qp: 26,
         column: 0,
     }
@@ -66,7 +68,6 @@ fn read(
 fn slice_data_are_read(rt: HostRuntime) -> Result<(), Fail> {
     let none = None;
     let no_reading = Some(SliceFault::NoReading);
-    let unbuilt = Some(SliceFault::Unbuilt);
     // the width, the bits before the data, the bytes, and what is read
     let rows: [(u32, u8, &[(u16, u8)], u8, Option<SliceFault>); 20] = [
         // a header of 17 bits; its samples are 00 00 00 and 80
@@ -192,30 +193,37 @@ fn slice_data_are_read(rt: HostRuntime) -> Result<(), Fail> {
             0,
             no_reading,
         ),
-        // mb_type 0 and 3, and then zero bits alone, or a 1 bit
+        // I_NxN, cut in its modes, Intra_16x16, cut before its modes, and one behind which no stop bit is left
         (1, 0, &[(1, 0x80), (2, 0)], 0, no_reading),
         (1, 0, &[(1, 0x20), (2, 0)], 0, no_reading),
-        (1, 0, &[(1, 0x80), (1, 0), (1, 1)], 0, unbuilt),
         (
             1,
             17,
-            &[(1, 0x88), (1, 0x84), (1, 0x93), (1, 0xC0)],
-            0,
-            unbuilt,
+            &[(1, 0x88), (1, 0x84), (1, 0x93), (1, 0x80)],
+            1,
+            no_reading,
         ),
         (
             2,
             0,
             &[(1, 0x0D), (1, 0), (384, 0x80), (1, 0x81)],
             1,
-            unbuilt,
+            no_reading,
+        ),
+        // Intra_16x16 without levels
+        (
+            1,
+            17,
+            &[(1, 0x88), (1, 0x84), (1, 0x93), (1, 0xC0)],
+            1,
+            none,
         ),
     ];
     for (width, before, runs, count, fault) in rows {
         let bytes = bytes_of(rt.alloc(), runs)?;
         let mut bits = SliceBits::new(bytes.as_slice());
         assert!(rt; bits.skip(before));
-        assert_eq!(rt; read(rt.alloc(), row_of(width), bits)?, (count, fault));
+        assert_eq!(rt; read(rt.alloc(), row_of(width, 77), bits)?, (count, fault));
     }
     Ok(())
 }
@@ -333,7 +341,7 @@ fn slice_data_come_back(rt: HostRuntime) -> Result<(), Fail> {
         let bytes = bytes_of(rt.alloc(), runs)?;
         let mut bits = SliceBits::new(bytes.as_slice());
         let sink = kept(rt.alloc(), &mut bits, before, few)?;
-        let Some(copy) = copied(rt.alloc(), row_of(width), bits, sink)? else {
+        let Some(copy) = copied(rt.alloc(), row_of(width, 77), bits, sink)? else {
             return Err(Fail::from("not copied"));
         };
         assert!(rt; copy.aligned());
@@ -341,6 +349,42 @@ fn slice_data_come_back(rt: HostRuntime) -> Result<(), Fail> {
             let wanted = bytes_of(rt.alloc(), written)?;
             assert_eq!(rt; copy.into_bytes().as_slice(), wanted.as_slice());
         }
+    }
+    Ok(())
+}
+
+/// What a writer answers to Intra_16x16 with this DC level, the only one.
+fn put_level(alloc: Global, profile: u8, level: i32) -> Result<Option<PutFault>, Fail>
+    requires { (profile ≡ 77) ⊎ (profile ≡ 100) }
+{
+    let shape = row_of(1, profile);
+    let mut mb = Mb::without_elements(MbKind::Intra(3));
+    mb.dc[0] = level;
+    if !valid(&shape, &[mb]) {
+        return Err(Fail::from("no macroblock"));
+    }
+    has_sizes(&mb);
+    let mut writer = CavlcWriter::start(alloc, shape, BitVec::new(alloc))?;
+    match writer.put(&mb) {
+        Ok(()) => Ok(None),
+        Err(fault) => Ok(Some(fault)),
+    }
+}
+
+#[test]
+fn levels_beyond_the_escape(rt: HostRuntime) -> Result<(), Fail> {
+    let beyond = Some(PutFault::Beyond);
+    // the profile, a level, and what is answered
+    let rows = [
+        (77, 2064, None),
+        (77, 2065, beyond),
+        (77, -2064, None),
+        (77, -2065, beyond),
+        (100, 2065, None),
+        (100, 65535, None),
+    ];
+    for (profile, level, answer) in rows {
+        assert_eq!(rt; put_level(rt.alloc(), profile, level)?, answer);
     }
     Ok(())
 }

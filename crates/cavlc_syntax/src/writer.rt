@@ -1,6 +1,11 @@
 //! The data of a slice, written one macroblock at a time.
+ghost use Rattle.std.specs.Prelude.{◌≡◌, length};
+ghost use Rattle.cavlc_syntax.specs.Row.{IsInRows};
+
+use crate::bound::{needs_longer_prefix, prefix_bound};
 use crate::fault::PutFault;
-use crate::layer::{write_end, write_layer};
+use crate::layer::{write_end, write_macroblock};
+use crate::row::CountRow;
 use exp_golomb::BitSink;
 use h264_types::{Mb, SliceShape};
 use std::alloc::{AllocError as Memory, Global};
@@ -10,6 +15,11 @@ use std::alloc::{AllocError as Memory, Global};
 pub struct CavlcWriter<B> {
     shape: SliceShape,
     bits: B,
+    /// How many macroblocks were put.
+    count: u32,
+    row: CountRow,
+    ghost in_rows: { IsInRows shape },
+    ghost kept: { length row.counts.items ≡ shape.width },
 }
 
 impl<B: BitSink> CavlcWriter<B> {
@@ -20,21 +30,35 @@ impl<B: BitSink> CavlcWriter<B> {
     ghost use Rattle.cavlc_syntax.specs.Written.{WritesFor, MayPut, PutGives};
 
     /// A writer of slice data behind what was put into `bits`. Puts no bit.
-    pub fn start(_alloc: Global, shape: SliceShape, bits: B) -> Result<CavlcWriter<B>, Memory>
+    pub fn start(alloc: Global, shape: SliceShape, bits: B) -> Result<CavlcWriter<B>, Memory>
         requires { IsBuiltShape shape }
         ensures writes { IfOk result (λ writer. WritesFor B.bits writer shape (B.bits bits) []) }
         ensures bits { IfOk result (λ writer. writer.bits ≡ bits) }
     {
-        Ok(CavlcWriter { shape, bits })
+        let row = CountRow::new(alloc, &shape)?;
+        Ok(CavlcWriter {
+            shape,
+            bits,
+            count: 0,
+            row,
+        })
     }
 
-    /// Writes the next macroblock. After a refusal a front of its text was written.
+    /// Writes the next macroblock. Beyond: a level needs a longer level_prefix than the profile has, and nothing was
+    /// written; another macroblock may follow. Where memory runs out a front of the text was written.
     pub fn put(&mut self, mb: &Mb) -> Result<(), PutFault>
         requires { MayPut B.bits self.old mb.now }
-        ensures { (shape : SliceShape) (before : List Bool) (done : List Mb) → WritesFor B.bits self.old shape before done
-            → PutGives B.bits self.new shape before (done ++ mb.now ∷ []) result }
+        ensures { (shape : SliceShape) (before : List Bool) (done : List Mb) → WritesFor B.bits self.old shape before done → PutGives B.bits self.old self.new shape before done mb.now result }
     {
-        write_layer(&mut self.bits, mb)?;
+        if needs_longer_prefix(mb, prefix_bound(&self.shape)) {
+            return Err(PutFault::Beyond);
+        }
+        let around = self.row.around(&self.shape, self.count);
+        let Ok(()) = write_macroblock(&mut self.bits, &around, mb) else {
+            return Err(PutFault::Memory);
+        };
+        self.row.push(&self.shape, self.count, mb);
+        self.count += 1;
         Ok(())
     }
 
@@ -43,7 +67,7 @@ impl<B: BitSink> CavlcWriter<B> {
         ensures { (shape : SliceShape) (before : List Bool) (done : List Mb) → WritesFor B.bits self shape before done
             → IfOk result (λ bits. B.bits bits ≡ before ++ slice_text shape (length before) done) }
     {
-        let CavlcWriter { shape: _, mut bits } = self;
+        let CavlcWriter { mut bits, .. } = self;
         write_end(&mut bits)?;
         Ok(bits)
     }

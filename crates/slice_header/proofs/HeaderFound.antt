@@ -200,9 +200,9 @@ pub record IsFound (sets : SetMaps) (nal : ℕ) (h : Header) (bits rest : List B
   pub nal_is : h.nal ≡ nal
   pub text : bits ≡ header_text active h ++ rest
 
-is_built_i : (a b c : Bool) → (a && b && c) ≡ true → a ≡ true
-is_built_i true b c h = refl
-is_built_i false b c h = absurd cc
+is_built_i : (a b c d : Bool) → (a && b && c && d) ≡ true → a ≡ true
+is_built_i true b c d h = refl
+is_built_i false b c d h = absurd cc
 
 not_not : (b : Bool) → not b ≡ false → b ≡ true
 not_not true h = refl
@@ -212,7 +212,7 @@ found_parts : (sets : SetMaps) (nal : ℕ) (bits mid : List Bool) (start : Start
     → IsFound sets nal h bits rest start.active
 unfolding header_text
 found_parts sets nal bits mid start h rest s built a =
-    let i : is_i start.slice_type ≡ true = is_built_i (is_i start.slice_type) start.active.sps.frame_mbs_only_flag (not start.active.pps.entropy_coding_mode_flag) built in
+    let i : is_i start.slice_type ≡ true = is_built_i (is_i start.slice_type) start.active.sps.frame_mbs_only_flag (not start.active.pps.entropy_coding_mode_flag) (not start.active.pps.transform_8x8_mode_flag) built in
     record {
       names = subst (λ n. Names sets n start.active) (sym a.number_is) s.active.names;
       allowed = record { in_profile = s.active.in_profile; built = subst (λ n. is_built n start.active ≡ true) (sym a.type_is) built };

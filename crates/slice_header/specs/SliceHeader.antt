@@ -62,9 +62,9 @@ slice_start sets = do
   active ← active_sets sets pic_parameter_set_id
   Done (record { first_mb_in_slice = first_mb_in_slice; slice_type = slice_type; pic_parameter_set_id = pic_parameter_set_id; active = active })
 
--- I slices of frames in CAVLC
+-- I slices of frames in CAVLC, without blocks of 8x8
 abbrev pub is_built : ℕ → Active → Bool
-is_built slice_type active = is_i slice_type && active.sps.frame_mbs_only_flag && not active.pps.entropy_coding_mode_flag
+is_built slice_type active = is_i slice_type && active.sps.frame_mbs_only_flag && not active.pps.entropy_coding_mode_flag && not active.pps.transform_8x8_mode_flag
 
 -- ---- the picture
 

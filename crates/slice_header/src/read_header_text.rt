@@ -39,6 +39,7 @@ fn is_built_start(start: &SliceStart<'_>) -> bool
     is_i_slice(start.slice_type)
         && start.active.sps.frame_mbs_only_flag
         && !start.active.pps.entropy_coding_mode_flag
+        && !start.active.pps.transform_8x8_mode_flag
 }
 
 /// What follows the start.
@@ -103,8 +104,9 @@ fn read_whole<B: BitSource>(
 }
 
 /// The slice header (7.3.3) of a unit with this header byte, under the sets that stand; just its text is taken. What
-/// `read_start` refuses is refused as it says; then slices other than I slices of frames in CAVLC are `Unbuilt`, before
-/// frame_num; and a text of no header is `NoReading`, at the element where it stops being one.
+/// `read_start` refuses is refused as it says; then slices other than I slices of frames in CAVLC whose
+/// transform_8x8_mode_flag is 0 are `Unbuilt`, before frame_num; and a text of no header is `NoReading`, at the element
+/// where it stops being one.
 pub fn read_header<B: BitSource>(
     alloc: Global,
     sets: &Sets,

@@ -134,19 +134,22 @@ fn refusals(rt: HostRuntime) -> Result<(), Fail> {
     let fields = [0x4D, 0x00, 0x0A, 0xF4, 0xC9];
     let cabac = [0xEE, 0x38, 0x80];
     let t8 = [0xCE, 0x38, 0xB0];
+    // High, one macroblock, 4:2:0 and 8 bits
+    let high = [0x64, 0x00, 0x0A, 0xAC, 0xB4, 0xF2];
     let other_sps = [0x90, 0xE3, 0x88];
     let i_slice = [0x88, 0xC8, 0x03, 0x28];
-    let rows: [(&[u8], &[u8], u8, &[u8], HeaderFault); 14] = [
+    let rows: [(&[u8], &[u8], u8, &[u8], HeaderFault); 15] = [
         (&MAIN, &PLAIN, 1, &[0x88, 0x50], HeaderFault::MissingPps(1)),
         (&MAIN, &other_sps, 1, &i_slice, HeaderFault::MissingSps(3)),
         // SP, which names picture set 9; SI; blocks of 8x8 under Main
         (&MAIN, &PLAIN, 1, &[0x90, 0x54], HeaderFault::Profile),
         (&MAIN, &PLAIN, 1, &[0x8A, 0x80], HeaderFault::Profile),
         (&MAIN, &t8, 1, &i_slice, HeaderFault::Profile),
-        // P; fields; CABAC
+        // P; fields; CABAC; blocks of 8x8 under High
         (&MAIN, &PLAIN, 1, &[0x9B, 0x21, 0x80], HeaderFault::Unbuilt),
         (&fields, &PLAIN, 1, &i_slice, HeaderFault::Unbuilt),
         (&MAIN, &cabac, 1, &[0x88, 0x80], HeaderFault::Unbuilt),
+        (&high, &t8, 1, &[0x88, 0x80], HeaderFault::Unbuilt),
         // slice_type 10; first_mb_in_slice 139264; SliceQPY 52 and -1; operation 7; no bits
         (&MAIN, &PLAIN, 1, &[0x8B, 0xC0], HeaderFault::NoReading),
         (

@@ -12,7 +12,7 @@ use Rattle.h264_types.specs.declared.layer.Layer.{Layer}
 use Rattle.h264_types.specs.declared.layer.Layer.TheVariants.{Cavlc, Cabac}
 use Rattle.h264_types.specs.declared.macroblock.Mb.{Mb}
 use Rattle.h264_types.specs.declared.slice_shape.SliceShape.{SliceShape}
-use Rattle.h264_types.specs.Valid.{IsMacroblock, IsListSent}
+use Rattle.h264_types.specs.Valid.{IsMacroblock, IsListSent, IsSlice as AreMacroblocks}
 use Rattle.std.proofs.lemmas.List.Elements.{All-weaker}
 use Rattle.annexb_units.proofs.Closed.{IsClosed-unit, EndsNonzero-unit}
 use Rattle.param_sets.specs.PpsCodes.{IsPps, pps_in, pps_text, pps_fields_text}
@@ -145,39 +145,44 @@ names-back to sets new n active h k = record {
   sps = h.sps active.pps.seq_parameter_set_id ∙ ap (option_map without_constraints) k.sps;
 }
 
-built-back : (a b c : Bool) → (a && b && not c) ≡ true → (a && b && not false) ≡ true
-built-back true true c e = refl
-built-back true false c e = absurd cc
-built-back false b c e = absurd cc
+built-back : (a b c d : Bool) → (a && b && not c && not d) ≡ true → (a && b && not false && not d) ≡ true
+built-back true true false d e = e
+built-back true true true d e = absurd cc
+built-back true false c d e = absurd cc
+built-back false b c d e = absurd cc
 
 allowed-back : (n slice_type : ℕ) (active : Active) → IsAllowed slice_type active → IsAllowed slice_type (active_in Cavlc n (unconstrained active))
 allowed-back n slice_type active h = record {
   in_profile = h.in_profile;
-  built = built-back (is_i slice_type) active.sps.frame_mbs_only_flag active.pps.entropy_coding_mode_flag h.built;
+  built = built-back (is_i slice_type) active.sps.frame_mbs_only_flag active.pps.entropy_coding_mode_flag active.pps.transform_8x8_mode_flag h.built;
 }
 
 -- which lists have a text doesn't rest on the column: the shape that is written is the one that was read but for it
 another_column : (shape : SliceShape) (column : ℕ) (mbs : List Mb) → HasText shape mbs → HasText (record shape { column = column }) mbs
 another_column shape column mbs h = record {
-  slice = record {
-    some = h.slice.some;
-    inside = h.slice.inside;
-    macroblocks = All-weaker (IsMacroblock shape) (IsMacroblock (record shape { column = column })) (λ mb is. record {
-      typed = record { kind = is.typed.kind; ref0 = is.typed.ref0; field = is.typed.field; t8 = is.typed.t8 };
-      intra = is.intra;
-      inter = record { subs = is.inter.subs; l0 = list is.inter.l0; l1 = list is.inter.l1 };
-      coded = is.coded;
-    }) mbs h.slice.macroblocks;
-    pairs = λ mbaff. record {
-      even = (h.slice.pairs mbaff).even;
-      each = λ pair within. let is = (h.slice.pairs mbaff).each pair within in record { same = is.same; inferred = is.inferred };
-    };
-  };
-  i_pcm = h.i_pcm;
+  built = record { kind = h.built.kind; mbaff = h.built.mbaff; t8_mode = h.built.t8_mode };
+  are = record { slice = slice h.are.slice; sizes = h.are.sizes };
+  within = h.within;
 }
   where
     list : {mb : Mb} {x : ℕ} → IsListSent shape mb x → IsListSent (record shape { column = column }) mb x
     list is = record { refs = is.refs; refs_repeat = is.refs_repeat; mvd = is.mvd; mvd_repeat = is.mvd_repeat }
+
+    slice : AreMacroblocks shape mbs → AreMacroblocks (record shape { column = column }) mbs
+    slice is = record {
+      some = is.some;
+      inside = is.inside;
+      macroblocks = All-weaker (IsMacroblock shape) (IsMacroblock (record shape { column = column })) (λ mb one. record {
+        typed = record { kind = one.typed.kind; ref0 = one.typed.ref0; field = one.typed.field; t8 = one.typed.t8 };
+        intra = one.intra;
+        inter = record { subs = one.inter.subs; l0 = list one.inter.l0; l1 = list one.inter.l1 };
+        coded = one.coded;
+      }) mbs is.macroblocks;
+      pairs = λ mbaff. record {
+        even = (is.pairs mbaff).even;
+        each = λ pair within. let both = (is.pairs mbaff).each pair within in record { same = both.same; inferred = both.inferred };
+      };
+    }
 
 -- a slice's bits are whole bytes, of which the last one isn't 0
 pub slice_payload : (s : Slice) → IsPayload (slice_bits s)

@@ -6,12 +6,13 @@ use Rattle.bit_texts.specs.Texts.{Appended}
 use Rattle.cavlc_syntax.specs.SliceText.{IsBuiltShape, HasText, slice_text}
 use Rattle.cavlc_syntax.specs.Standing.{Refuses}
 use Rattle.cavlc_syntax.specs.declared.fault.SliceFault.{SliceFault}
-use Rattle.cavlc_syntax.specs.declared.fault.SliceFault.TheVariants.{NoReading, Unbuilt, Memory}
+use Rattle.cavlc_syntax.specs.declared.fault.SliceFault.TheVariants.{NoReading, Memory}
 use Rattle.cavlc_syntax.proofs.Texts.{slice_of_both, slice_fills}
 use Rattle.exp_golomb.specs.Syntax.{Refuse, Outcome, Found, Refused, NoText, outcome_of, chained}
 use Rattle.exp_golomb.proofs.Syntaxes.{spelled, outcome_of_then}
 use Rattle.h264_types.specs.declared.fault.Why.TheVariants.{Unbuilt as IsUnbuiltUnit}
 use Rattle.h264_types.specs.declared.layer.Layer.TheVariants.{Cavlc, Cabac}
+use Rattle.h264_types.specs.SliceShape.{without_column}
 use Rattle.h264_types.specs.declared.slice_shape.SliceShape.{SliceShape}
 use Rattle.param_sets.proofs.SetLaws.{nothing_spelled}
 use Rattle.param_sets.specs.Sets.{SetMaps}
@@ -33,7 +34,6 @@ use Rattle.stream_recoder.proofs.Slices.{built_under}
 
 pub no_copy : (shape : SliceShape) (pos : ℕ) (left : List Bool) (fault : SliceFault) → Refuses shape pos left fault → IsNoCopy shape pos left fault
 no_copy shape pos left NoReading h = h
-no_copy shape pos left Unbuilt h = h
 no_copy shape pos left Memory h = tt
 
 -- ## A slice that is to be written in CABAC
@@ -93,13 +93,7 @@ data_fault sets header bits taken rest h shape NoReading r is none =
     let f = written_one sets header bits rest h r.text in
     let P : SliceShape → Type 0 = λ s. IsNoCopy s (length taken) rest NoReading in
     let Q : ℕ → Type 0 = λ n. IsNoCopy (shape_of f.0 h) n rest NoReading in
-    let none' = subst Q (places bits taken rest r.kept) (subst P (is f.0 f.1) none) in
-    inr (record { h = h; active = f.0; names = f.1; rest = rest; header_is = r.text; none = inr (refl, none'.0, none'.1) })
-data_fault sets header bits taken rest h shape Unbuilt r is none =
-    let f = written_one sets header bits rest h r.text in
-    let P : SliceShape → Type 0 = λ s. IsNoCopy s (length taken) rest Unbuilt in
-    let Q : ℕ → Type 0 = λ n. IsNoCopy (shape_of f.0 h) n rest Unbuilt in
-    inr (record { h = h; active = f.0; names = f.1; rest = rest; header_is = r.text; none = inl (refl, subst Q (places bits taken rest r.kept) (subst P (is f.0 f.1) none)) })
+    inr (record { h = h; active = f.0; names = f.1; rest = rest; header_is = r.text; none = (refl, subst Q (places bits taken rest r.kept) (subst P (is f.0 f.1) none)) })
 
 -- the header that is written, without the constraint flags too
 header_written : (active : Active) (h : Header) (start out : List Bool) → start ≡ [] → Appended start out (header_text (active_in Cavlc h.pic_parameter_set_id active) (header_in Cavlc h.pic_parameter_set_id 0 h))
@@ -128,7 +122,7 @@ slice_copied sets header bits taken rest h shape start out copy payload count r 
         list = subst T (is f.0 f.1) k.list;
         rest_is = k.read ∙ ap (λ x. slice_text x (length taken) k.mbs) (is f.0 f.1) ∙ ap (λ n. slice_text (shape_of f.0 h) n k.mbs) (places bits taken rest r.kept);
       };
-      written = bytes ∙ k.written ∙ ap (λ x. x ++ slice_text shape (length x) k.mbs) written ∙ ap (λ x. text ++ x) (slice_of_both shape (shape_of t.active t.header) (length text) k.mbs);
+      written = bytes ∙ k.written ∙ ap (λ x. x ++ slice_text shape (length x) k.mbs) written ∙ ap (λ x. text ++ x) (slice_of_both shape (shape_of t.active t.header) (length text) k.mbs (ap without_column (is f.0 f.1)));
       count = k.counted;
     }
 

@@ -2,13 +2,12 @@
 use Rattle.std.proofs.Common.{◌≡◌, ◌⊎◌, inl, inr, ℕ, ◌-◌, List, length, Bool, true, false, not, ◌&&◌, Some, cond, refl, sym, ap, subst, ◌∙◌}
 use Rattle.bit_texts.proofs.Inverting.{some_is}
 use Rattle.cavlc_syntax.specs.SliceText.{IsBuiltShape, HasText, slice_text, NoList}
-use Rattle.cavlc_syntax.specs.Unbuilt.{IsUnbuilt}
 use Rattle.cavlc_syntax.proofs.Decided.{decided}
-use Rattle.cavlc_syntax.proofs.Texts.{one_list, unbuilt_no_list}
+use Rattle.cavlc_syntax.proofs.Texts.{one_list}
 use Rattle.exp_golomb.specs.Syntax.{Syntax, Refuse, Outcome, Found, Refused, NoText, Spells, outcome_of}
 use Rattle.exp_golomb.proofs.Syntaxes.{one_outcome, spelled}
 use Rattle.h264_types.specs.declared.fault.Why.{Why}
-use Rattle.h264_types.specs.declared.fault.Why.TheVariants.{Unbuilt, Header as BadHeader, Slice as BadSlice}
+use Rattle.h264_types.specs.declared.fault.Why.TheVariants.{Header as BadHeader, Slice as BadSlice}
 use Rattle.h264_types.specs.declared.layer.Layer.{Layer}
 use Rattle.h264_types.specs.declared.layer.Layer.TheVariants.{Cavlc, Cabac}
 use Rattle.h264_types.specs.declared.macroblock.Mb.{Mb}
@@ -84,10 +83,7 @@ no_text-found named none syntax bits why value rest (inl a) t = a.1 (Found value
 no_text-found named none syntax bits why value rest (inr a) t = let same = one_outcome syntax bits (Refused a.0) (Found value rest) a.2 t in cc
 
 data-once : (shape : SliceShape) (pos : ℕ) (rest : List Bool) (v w : Why) → IsNoData shape pos rest v → IsNoData shape pos rest w → v ≡ w
-data-once shape pos rest v w (inl a) (inl b) = a.0 ∙ sym b.0
-data-once shape pos rest v w (inl a) (inr b) = absurd (b.2 a.1)
-data-once shape pos rest v w (inr a) (inl b) = absurd (a.2 b.1)
-data-once shape pos rest v w (inr a) (inr b) = a.0 ∙ sym b.0
+data-once shape pos rest v w a b = a.0 ∙ sym b.0
 
 -- what is refused behind one header is refused behind the same one
 data-moved : (h k : Header) (a b : Active) (n : ℕ) (rest after : List Bool) (why : Why) → h ≡ k → a ≡ b → rest ≡ after → IsNoData (shape_of a h) (n - length rest) rest why → IsNoData (shape_of b k) (n - length after) after why
@@ -113,8 +109,7 @@ no_slice-once to sets header bits v w (inr a) (inr b) = no_data-once to sets hea
 
 -- data of a slice are not refused
 data-not_refused : (shape : SliceShape) (pos : ℕ) (rest : List Bool) (why : Why) (mbs : List Mb) → HasText shape mbs → rest ≡ slice_text shape pos mbs → IsNoData shape pos rest why → ⊥
-data-not_refused shape pos rest why mbs has is (inl a) = unbuilt_no_list shape pos rest a.1 mbs has is
-data-not_refused shape pos rest why mbs has is (inr a) = a.1 mbs has is
+data-not_refused shape pos rest why mbs has is none = none.1 mbs has is
 
 pub slice-not_refused : (to : Layer) (sets : SetMaps) (header : ℕ) (bits : List Bool) (s : Slice) (why : Why) → IsSliceOf to sets header bits s → IsNoSlice to sets header bits why → ⊥
 slice-not_refused to sets header bits s why is (inl a) = no_text-found why_of_header BadHeader (slice_header_to to sets header) bits why s.header is.rest a is.header_is
@@ -159,19 +154,30 @@ no_pairs : (adaptive field : Bool) → adaptive ≡ false → (adaptive && not f
 no_pairs true field e = absurd cc
 no_pairs false field e = refl
 
-three : (a b c : Bool) → (a && b && c) ≡ true → b ≡ true
-three true true c e = refl
-three true false c e = absurd cc
-three false b c e = absurd cc
+-- a slice that is built is of frames alone, without the 8x8 transform
+frames_of : (a b c d : Bool) → (a && b && c && d) ≡ true → b ≡ true
+frames_of true true c d e = refl
+frames_of true false c d e = absurd cc
+frames_of false b c d e = absurd cc
 
--- slices that are allowed are I slices outside MBAFF
+no_8x8 : (a b c d : Bool) → (a && b && c && not d) ≡ true → d ≡ false
+no_8x8 a b c false e = refl
+no_8x8 true true true true e = absurd cc
+no_8x8 true true false true e = absurd cc
+no_8x8 true false c true e = absurd cc
+no_8x8 false b c true e = absurd cc
+
+-- slices that are allowed are I slices outside MBAFF, without the 8x8 transform
 pub built_under : (active : Active) (h : Header) → IsSps active.sps → IsAllowed h.slice_type active → HeaderFits active h → IsBuiltShape (shape_of active h)
 built_under active h sps allowed fits =
-    let frame = three (is_i h.slice_type) active.sps.frame_mbs_only_flag (not active.pps.entropy_coding_mode_flag) allowed.built in
+    let frames = frames_of (is_i h.slice_type) active.sps.frame_mbs_only_flag (not active.pps.entropy_coding_mode_flag) (not active.pps.transform_8x8_mode_flag) allowed.built in
     record {
       is_shape = shape_fits active h sps fits;
-      kind = is_i-kind (is_i h.slice_type) _ fits.i_slice;
-      mbaff = no_pairs active.sps.mb_adaptive_frame_field_flag h.field_pic_flag (sps.fits.size.mb_adaptive_frame_field_flag frame);
+      built = record {
+        kind = is_i-kind (is_i h.slice_type) _ fits.i_slice;
+        mbaff = no_pairs active.sps.mb_adaptive_frame_field_flag h.field_pic_flag (sps.fits.size.mb_adaptive_frame_field_flag frames);
+        t8_mode = no_8x8 (is_i h.slice_type) active.sps.frame_mbs_only_flag (not active.pps.entropy_coding_mode_flag) active.pps.transform_8x8_mode_flag allowed.built;
+      };
     }
 
 built : (sets : SetMaps) (h : Header) (f : FoundHeader sets h) → AreInRange sets → IsBuiltShape (shape_of f.active h)
@@ -182,15 +188,12 @@ DecidedSlice to sets header bits = ((s : Slice) × IsSliceOf to sets header bits
 
 -- what follows a header is decided
 rest-decided : (to : Layer) (sets : SetMaps) (header : ℕ) (bits rest : List Bool) (h : Header) (f : FoundHeader sets h) → Spells (slice_header_to to sets header) bits (Found h rest)
-    → ((mbs : List Mb) × HasText (shape_of f.active h) mbs × (rest ≡ slice_text (shape_of f.active h) (length bits - length rest) mbs))
-    ⊎ (IsUnbuilt (shape_of f.active h) (length bits - length rest) rest ⊎ (NoList (shape_of f.active h) (length bits - length rest) rest × (IsUnbuilt (shape_of f.active h) (length bits - length rest) rest → ⊥)))
+    → ((mbs : List Mb) × HasText (shape_of f.active h) mbs × (rest ≡ slice_text (shape_of f.active h) (length bits - length rest) mbs)) ⊎ NoList (shape_of f.active h) (length bits - length rest) rest
     → DecidedSlice to sets header bits
 rest-decided to sets header bits rest h f text (inl d) =
     inl (record { header = h; active = f.active; mbs = d.0 }, record { names = f.names; rest = rest; header_is = text; list = d.1; rest_is = d.2 })
-rest-decided to sets header bits rest h f text (inr (inl d)) =
-    inr (Unbuilt, inr (record { h = h; active = f.active; names = f.names; rest = rest; header_is = text; none = inl (refl, d) }))
-rest-decided to sets header bits rest h f text (inr (inr d)) =
-    inr (BadSlice, inr (record { h = h; active = f.active; names = f.names; rest = rest; header_is = text; none = inr (refl, d.0, d.1) }))
+rest-decided to sets header bits rest h f text (inr d) =
+    inr (BadSlice, inr (record { h = h; active = f.active; names = f.names; rest = rest; header_is = text; none = (refl, d) }))
 
 by_outcome : (to : Layer) (sets : SetMaps) (header : ℕ) (bits : List Bool) → AreInRange sets → (o : Outcome Refusal Header) → outcome_of (slice_header_to to sets header) bits ≡ o → DecidedSlice to sets header bits
 by_outcome to sets header bits range (Found h rest) e =

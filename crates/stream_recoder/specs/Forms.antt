@@ -1,7 +1,7 @@
 -- What is written for a unit that is read under the sets that stand.
 use Rattle.std.specs.Prelude.{◌≡◌, ℕ, List, None}
 use Rattle.cavlc_syntax.specs.declared.fault.SliceFault.{SliceFault}
-use Rattle.cavlc_syntax.specs.declared.fault.SliceFault.TheVariants.{NoReading as NoMacroblocks, Unbuilt as UnbuiltMacroblock, Memory as NoRoomForData}
+use Rattle.cavlc_syntax.specs.declared.fault.SliceFault.TheVariants.{NoReading as NoMacroblocks, Memory as NoRoomForData}
 use Rattle.h264_types.specs.declared.fault.Why.{Why}
 use Rattle.h264_types.specs.declared.fault.Why.TheVariants.{Unbuilt, Escape, Profile as BadProfile, Limit as BadLimit, Header as BadHeader, MissingSps, MissingPps, Slice as BadSlice}
 use Rattle.h264_types.specs.declared.layer.Layer.{Layer}
@@ -53,5 +53,4 @@ fault_of_header headers.Memory = Memory
 
 abbrev pub fault_of_data : SliceFault → UnitFault
 fault_of_data NoMacroblocks = Outside BadSlice
-fault_of_data UnbuiltMacroblock = Outside Unbuilt
 fault_of_data NoRoomForData = Memory

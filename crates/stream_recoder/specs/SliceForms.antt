@@ -2,7 +2,6 @@
 use Rattle.std.specs.Prelude.{◌≡◌, ℕ, Bool, List, ◌++◌, length}
 use Rattle.bit_texts.specs.Bits.{bits_of}
 use Rattle.cavlc_syntax.specs.SliceText.{HasText, slice_text, NoList}
-use Rattle.cavlc_syntax.specs.Unbuilt.{IsUnbuilt}
 use Rattle.cavlc_syntax.specs.declared.fault.SliceFault.{SliceFault}
 use Rattle.cavlc_syntax.specs.declared.fault.SliceFault.TheVariants as faults
 use Rattle.h264_types.specs.declared.layer.Layer.{Layer}
@@ -35,8 +34,7 @@ pub record IsCopy (shape : SliceShape) (pos : ℕ) (left before after : List Boo
   pub written : after ≡ before ++ slice_text shape (length before) mbs
   pub counted : count ≡ length mbs
 
--- they are none, or go on with a macroblock that isn't read yet
+-- they are none, or there is no memory
 abbrev pub IsNoCopy : SliceShape → ℕ → List Bool → SliceFault → Type 0
-IsNoCopy shape pos left faults.NoReading = NoList shape pos left × (IsUnbuilt shape pos left → ⊥)
-IsNoCopy shape pos left faults.Unbuilt = IsUnbuilt shape pos left
+IsNoCopy shape pos left faults.NoReading = NoList shape pos left
 IsNoCopy shape pos left faults.Memory = Unit {0}

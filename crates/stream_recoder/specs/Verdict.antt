@@ -2,7 +2,6 @@
 use Rattle.std.specs.Prelude.{◌≡◌, ◌⊎◌, ℕ, ◌-◌, ◌^◌, min, Bool, false, ◌||◌, ◌==◌, if◌then◌else◌, List, [], ◌∷◌, drop, length, Option, Some, None, option_map}
 use Rattle.bit_texts.specs.Bits.{bits_of}
 use Rattle.cavlc_syntax.specs.SliceText.{NoList}
-use Rattle.cavlc_syntax.specs.Unbuilt.{IsUnbuilt}
 use Rattle.exp_golomb.specs.EmulationPrevention.{IsEscape}
 use Rattle.exp_golomb.specs.Syntax.{Syntax, Outcome, Found, Refused, Spells}
 use Rattle.h264_types.specs.declared.fault.Why.{Why}
@@ -50,12 +49,9 @@ IsNoText {E} {A} named none syntax bits why =
     ((why ≡ none) × ((outcome : Outcome E A) → ¬ Spells syntax bits outcome))
     ⊎ ((cause : E) × (why ≡ named cause) × Spells syntax bits (Refused cause))
 
--- The bits behind a header, with so many bits before them, go on with a macroblock that isn't read yet, or are no slice
--- data.
+-- the bits behind a header, with so many bits before them, are no slice data
 abbrev pub IsNoData : SliceShape → ℕ → List Bool → Why → Type 0
-IsNoData shape pos rest why =
-    ((why ≡ Unbuilt) × IsUnbuilt shape pos rest)
-    ⊎ ((why ≡ BadSlice) × NoList shape pos rest × (IsUnbuilt shape pos rest → ⊥))
+IsNoData shape pos rest why = (why ≡ BadSlice) × NoList shape pos rest
 
 -- the bits begin with a slice header, and what follows are no slice data
 pub record HasNoData (to : Layer) (sets : SetMaps) (header : ℕ) (bits : List Bool) (why : Why) : Type 0 where

@@ -55,7 +55,6 @@ pub fn fault_of_data(fault: SliceFault) -> UnitFault
 {
     match fault {
         SliceFault::NoReading => UnitFault::Outside(Why::Slice),
-        SliceFault::Unbuilt => UnitFault::Outside(Why::Unbuilt),
         SliceFault::Memory => UnitFault::Memory,
     }
 }

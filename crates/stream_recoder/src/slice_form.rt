@@ -6,7 +6,7 @@ ghost use Rattle.param_sets.specs.Sets.{SetMaps};
 ghost use Rattle.stream_recoder.specs.SliceForms.{IsSliceForm, IsSliceRefusal, IsCopy, IsNoCopy};
 
 use crate::fault::{UnitFault, fault_of_data, fault_of_header};
-use cavlc_syntax::{CavlcReader, CavlcWriter, SliceFault};
+use cavlc_syntax::{CavlcReader, CavlcWriter, PutFault, SliceFault};
 use exp_golomb::{BitSink, BitSource, BitVec, SliceBits};
 use h264_types::{Layer, Mb, MbKind, SliceShape, Why};
 use param_sets::Sets;
@@ -104,9 +104,12 @@ fn copy_data<B: BitSource, K: BitSink>(
             };
             return Ok((out, count));
         }
-        let Ok(()) = writer.put(&mb) else {
-            return Err(SliceFault::Memory);
-        };
+        match writer.put(&mb) {
+            Ok(()) => {}
+            // what was read under this bound is written under it
+            Err(PutFault::Beyond) => unreachable!(),
+            Err(PutFault::Memory) => return Err(SliceFault::Memory),
+        }
     }
     unreachable!()
 }

@@ -77,6 +77,26 @@ fn samples_are_written_again(rt: HostRuntime) -> Result<(), Fail> {
     Ok(())
 }
 
+// Intra_16x16 macroblocks of prediction mode 2: without levels, and with the DC level 1 at place 0.
+#[test]
+fn levels_are_written_again(rt: HostRuntime) -> Result<(), Fail> {
+    for last in [&[0x93, 0xC0], &[0x93, 0x58]] {
+        let slice: &[u8] = &[0, 0, 1, 0x65, 0x88, 0x84];
+        let input = bytes(rt.alloc(), &[SETS, slice, last], 0)?;
+        let output = bytes(rt.alloc(), &[CAVLC_SETS, &[0], slice, last], 0)?;
+        let row = run_of(
+            CAVLC,
+            input.as_slice(),
+            Status::Ok,
+            output.as_slice(),
+            "ok units 3 slices 1 macroblocks 1 in 24 out 27\n",
+        );
+        expect(&rt, rt.alloc(), &row, 1)?;
+        expect(&rt, rt.alloc(), &row, 100)?;
+    }
+    Ok(())
+}
+
 // Three macroblocks side by side, and a slice from the second one on, which has room for two.
 #[test]
 fn macroblocks_lie_in_the_picture(rt: HostRuntime) -> Result<(), Fail> {
@@ -171,6 +191,21 @@ fn slices_are_refused(rt: HostRuntime) -> Result<(), Fail> {
             "outside unit 1 missing sps 0\n",
         ),
     ];
+    let eight: &[u8] = &[
+        0, 0, 1, 0x67, 0x64, 0, 0x0A, 0xAC, 0xB4, 0xF2, 0, 0, 1, 0x68, 0xCE, 0x38, 0xB0, 0, 0, 1,
+        0x65, 0x88, 0x84, 0x93, 0xC0,
+    ];
+    let eight_sets: &[u8] = &[
+        0, 0, 0, 1, 0x67, 0x64, 0, 0x0A, 0xAC, 0xB4, 0xF2, 0, 0, 0, 1, 0x68, 0xCE, 0x38, 0xB0,
+    ];
+    let row = outside(
+        eight,
+        2,
+        Why::Unbuilt,
+        eight_sets,
+        "outside unit 2 unbuilt\n",
+    );
+    expect(&rt, rt.alloc(), &row, 100)?;
     for row in &rows {
         expect(&rt, rt.alloc(), row, 1)?;
         expect(&rt, rt.alloc(), row, 100)?;
@@ -182,12 +217,13 @@ fn slices_are_refused(rt: HostRuntime) -> Result<(), Fail> {
         Why::Unbuilt,
         "outside unit 2 unbuilt\n",
     )?;
+    // cut before the levels of Intra16x16DCLevel
     expect_behind_sets(
         &rt,
         rt.alloc(),
-        &[0x65, 0x88, 0x84, 0x93, 0xC0],
-        Why::Unbuilt,
-        "outside unit 2 unbuilt\n",
+        &[0x65, 0x88, 0x84, 0x93, 0x80],
+        Why::Slice,
+        "outside unit 2 slice\n",
     )?;
     expect_behind_sets(
         &rt,

@@ -10,7 +10,7 @@ put-requires g c =
     let all = g.B.BitSource.left c.args.source in
     let done = c.loop-i.invariant.0 in
     let gives = subst (λ more. NextGives at c.next_into.new.self c.args.shape pos all done (step_of c.next_into.new.mb (Ok more))) c.if-not-more.false (c.in-Ok.ensures c.args.shape pos all done c.loop-i.invariant.1) in
-    (c.args.shape, g.K.BitSink.bits c.args.sink, done, c.loop-i.invariant.2, gives.1.begins)
+    (c.args.shape, g.K.BitSink.bits c.args.sink, done, c.loop-i.invariant.2, (gives.1.begins.0, gives.1.begins.1.are))
 
 pub loop-i-preserved : goal.loop-i-preserved
 loop-i-preserved g c =
@@ -19,4 +19,4 @@ loop-i-preserved g c =
     let all = g.B.BitSource.left c.args.source in
     let done = c.loop-i.invariant.0 in
     let gives = subst (λ more. NextGives at c.next_into.new.self c.args.shape pos all done (step_of c.next_into.new.mb (Ok more))) c.if-not-more.false (c.in-Ok.ensures c.args.shape pos all done c.loop-i.invariant.1) in
-    (done ++ c.next_into.new.mb ∷ [], gives.0, c.in-Ok-put.ensures c.args.shape (g.K.BitSink.bits c.args.sink) done c.loop-i.invariant.2)
+    (done ++ c.next_into.new.mb ∷ [], gives.0, (c.in-Ok-put.ensures c.args.shape (g.K.BitSink.bits c.args.sink) done c.loop-i.invariant.2).1)
