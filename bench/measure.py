@@ -1,4 +1,4 @@
-"""What the benchmarks have in common: units, and runs of h264recode beside `cat` on one stream, timed and checked."""
+"""What the benchmarks have in common: units, and runs of h264recode beside another program, timed and checked."""
 
 import filecmp
 import os
@@ -40,18 +40,21 @@ def peak_memory(command, stream):
     return peak
 
 
-def measure(program, stream, report, output, due=None):
+def measure(program, stream, report, output, due=None, other=("cat",)):
     """
-    Prints the times and the peak memory of `cat` and of the program, from CAVLC to CAVLC. Each run's report must be the
-    one that is due, and the output file the bytes of the file `due`, where there is one.
+    Prints the times and the peak memory of another program, which has the stream as its input too, and of h264recode, from
+    CAVLC to CAVLC. Each run's report must be the one that is due, and the output file the bytes of the file `due`, where
+    there is one. The other program must say nothing.
     """
-    cat, recode = ["cat"], [program, "recode", "--to", "cavlc", "--table", "flat"]
+    recode = [program, "recode", "--to", "cavlc", "--table", "flat"]
     print(f"the stream: {report}")
     for place in "/dev/null", output:
         # In turn, so that both meet the same load; the least time of each counts. The first round warms the caches.
         rounds = []
         for _ in range(1 + ROUNDS):
-            beside, _ = seconds(cat, stream, place)
+            beside, complaint = seconds(other, stream, place)
+            if complaint:
+                sys.exit(f"{other[0]} complains: {complaint}")
             taken, told = seconds(recode, stream, place)
             if told != report:
                 sys.exit(f"the report is {told!r}")
@@ -60,5 +63,5 @@ def measure(program, stream, report, output, due=None):
             rounds.append((beside, taken))
         beside, taken = map(min, zip(*rounds[1:]))
         name = "to a file" if place == output else f"to {place}"
-        print(f"{name}: cat {beside:.3f} s, h264recode {taken:.3f} s, ratio {taken / beside:.2f}")
-    print(f"peak memory: cat {peak_memory(cat, stream)} KiB, h264recode {peak_memory(recode, stream)} KiB")
+        print(f"{name}: {other[0]} {beside:.3f} s, h264recode {taken:.3f} s, ratio {taken / beside:.2f}")
+    print(f"peak memory: {other[0]} {peak_memory(other, stream)} KiB, h264recode {peak_memory(recode, stream)} KiB")

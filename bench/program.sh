@@ -1,5 +1,5 @@
-# Sourced by the benchmarks, with the program's path if one is named. It gives $program, built with rt where none is named,
-# and $room, a temporary folder that goes when the benchmark ends; and it lets python3 find measure.py.
+# Sourced by the benchmarks and by acceptance/, with the program's path if one is named. It gives $program, built with rt
+# where none is named, and $room, a temporary folder that goes when the script ends; and it lets python3 find measure.py.
 set -euo pipefail
 here=$(cd "$(dirname "${BASH_SOURCE[0]}")" && pwd)
 
@@ -7,7 +7,7 @@ want() {
     command -v "$1" >/dev/null || { echo "$0: $1 is wanted and isn't there: $2" >&2; exit 2; }
 }
 
-want python3 "it makes the stream and measures the runs"
+want python3 "rt and the benchmarks run on it"
 if [ $# -gt 0 ]; then
     program=$(realpath "$1")
 else
