@@ -39,7 +39,11 @@ pub fn count_levels(levels: &[i32]) -> u8
     ensures value { result ≡ total_coeff levels.now }
     ensures most { result ≤ 16 }
 {
-    levels.iter().filter(|level| **level != 0).count() as u8
+    let mut count = 0u8;
+    for level in levels {
+        count += u8::from(*level != 0);
+    }
+    count
 }
 
 impl Counts {
