@@ -419,7 +419,7 @@ block_is_read m nc max bound t o z ls bits mid tail runs e shape h token levels 
 
 -- ---- with a bound of 20 no block in range is beyond it
 
-none_above_20 : (s extra : ℕ) (ls : List ℤ) → s ≤ 6 → AllSmall ls → is_above 20 s extra ls ≡ false
+pub none_above_20 : (s extra : ℕ) (ls : List ℤ) → s ≤ 6 → AllSmall ls → is_above 20 s extra ls ≡ false
 none_above_20 s extra [] h small = refl
 none_above_20 s extra (l ∷ ls) h small =
     let w = level_word-small s (code_of l - extra) (omega arith) (omega (arith, code_in_range l small.0)) in

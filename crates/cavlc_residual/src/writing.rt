@@ -54,7 +54,7 @@ fn is_one(level: i32) -> bool
     level == 1 || level == -1
 }
 
-/// Whether some level needs a level_prefix above the bound.
+/// Whether some level needs a level_prefix above the bound. None needs one above 20.
 pub fn is_above_bound(levels: &[i32], suffix_length: u8, extra: u8, bound: u8) -> bool
     requires nonzero { AllByRecursion (λ l. is_nonzero l ≡ true) levels.now }
     requires level_small { AllByRecursion (λ l. magnitude l ≤ 65535) levels.now }
@@ -62,6 +62,9 @@ pub fn is_above_bound(levels: &[i32], suffix_length: u8, extra: u8, bound: u8) -
     requires within { bound ≤ 20 }
     ensures { result ≡ is_above bound suffix_length extra levels.now }
 {
+    if bound == 20 {
+        return false;
+    }
     let mut suffix_length = suffix_length;
     let mut extra = extra;
     for i in 0..levels.len() {
