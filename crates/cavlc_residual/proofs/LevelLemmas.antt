@@ -1,12 +1,13 @@
-use Rattle.std.proofs.Common.{◌≡◌, ℕ, zero, suc, ◌+◌, ◌-◌, ◌^◌, ◌<◌, ◌≤◌, Bool, true, false, cond, List, [], ◌∷◌, ◌++◌, ltb, eqb, replicate, add-zero, zero-add, refl, sym, ap, ◌∙◌, subst, arith, ◌⊎◌, inl, inr, append_assoc, None, Result, IsErr, add-one, leb}
+use Rattle.std.proofs.Common.{◌≡◌, ℕ, zero, suc, ◌+◌, ◌-◌, ◌*◌, ◌/◌, ◌%◌, ◌^◌, ◌<◌, ◌≤◌, Bool, true, false, cond, List, [], ◌∷◌, ◌++◌, ltb, eqb, replicate, add-zero, zero-add, refl, sym, ap, ◌∙◌, subst, arith, ◌⊎◌, inl, inr, append_assoc, None, Result, add-one, leb}
 use Rattle.std.proofs.Math.Nat.{suc-add}
 use Rattle.std.proofs.lemmas.Bool.{cases_lt, lt-ltb, le-ltb, eqb-true, leb-true}
 use Rattle.bit_texts.specs.Bits.{binary}
-use Rattle.bit_texts.specs.Texts.{Reads, IsPrefixFree, Appended, Appends}
-use Rattle.cavlc_residual.proofs.Pieces.{AppendsFront, Appends-then, Appends-stop}
+use Rattle.bit_texts.specs.Texts.{Reads, IsPrefixFree, Appends}
 use Rattle.bit_texts.proofs.Reading.{IsPrefixFree-binary, IsPrefixFree-then, Reads-then}
 use Rattle.code_tables.proofs.CodeTables.{all_below, all_below-at}
-use Rattle.bit_texts.proofs.Writing.{Appended-same}
+use Rattle.bit_texts.proofs.Writing.{Appends-same}
+use Rattle.bit_texts.proofs.Numbers.{binary-add, binary-high, pow_next, pow_most}
+use Rattle.std.proofs.lemmas.Nat.{div-add-mod', div_below, mod_below, pow_pos, shr_high}
 use Rattle.cavlc_residual.proofs.WindowLemmas.{zeros_first, binary-prefix}
 use Rattle.cavlc_residual.specs.Level.{prefix_bits, suffix_size, word_bits, IsLevelWord, level_code, word_from, level_word}
 
@@ -114,13 +115,52 @@ level_code-level_word s code h small =
       level_code-suffix s w.0 w.1 ∙ (ap (λ n. n + w.1) (level_code-first s w.0 h (omega arith) ∙ ap (span s 0) same) ∙ sym f.code),
     )
 
-pub level_word-start : (s code : ℕ) → level_word s code ≡ word_from 21 s 0 code
-unfolding level_word
-level_word-start s code = refl
-
 -- the prefix that the ladder finds isn't below the one it begins at
 pub word_from-above : (n s p x : ℕ) → p ≤ (word_from n s p x).0
 word_from-above n s p x = let f = word_from-finds n s p x in omega arith
+
+-- ---- the words of the prefixes below 14, each of which has 2^s codes
+
+level_code-low : (s p x : ℕ) → s < 7 → p < 15 → level_code s p x ≡ p * 2 ^ s + x
+level_code-low s p x h k =
+    level_code-suffix s p x
+    ∙ ap (λ n. n + x)
+    (eqb-true (level_code s p 0) (p * 2 ^ s)
+    (all_below-at (λ q. eqb (level_code s q 0) (q * 2 ^ s)) 15 p (all_below-at (λ t. all_below (λ q. eqb (level_code t q 0) (q * 2 ^ t)) 15) 7 s refl h) k))
+
+suffix_size-low : (s p : ℕ) → s < 7 → p < 14 → suffix_size s p ≡ s
+suffix_size-low s p h k =
+    eqb-true (suffix_size s p) s
+    (all_below-at (λ q. eqb (suffix_size s q) s) 14 p (all_below-at (λ t. all_below (λ q. eqb (suffix_size t q) t) 14) 7 s refl h) k)
+
+pub shl_14 : (s : ℕ) → s < 7 → 14 * 2 ^ s % 4294967296 ≡ 14 * 2 ^ s
+shl_14 s h = eqb-true (14 * 2 ^ s % 4294967296) (14 * 2 ^ s) (all_below-at (λ t. eqb (14 * 2 ^ t % 4294967296) (14 * 2 ^ t)) 7 s refl h)
+
+low_prefix : (s code : ℕ) → code < 14 * 2 ^ s → code / 2 ^ s < 14
+low_prefix s code h = div_below code (2 ^ s) 14 (pow_pos s) h
+
+pub low_word : (s code p x bound : ℕ) → s < 7 → bound ≤ 20 → code < 14 * 2 ^ s → p ≡ code / 2 ^ s → x ≡ code % 2 ^ s → p ≤ bound → ((p, x) ≡ level_word s code) × IsLevelWord s bound (p, x)
+low_word s code p x bound h k low prefix suffix within =
+    let few : p < 14 = omega (arith, prefix, low_prefix s code low) in
+    let fits : x < 2 ^ suffix_size s p = let P : ℕ → Type 0 = λ n. x < 2 ^ n in subst P (sym (suffix_size-low s p h few)) (omega (arith, suffix, mod_below code (2 ^ s) (pow_pos s))) in
+    let parts : p * 2 ^ s + x ≡ code = ap (λ n. n * 2 ^ s + x) prefix ∙ (ap (λ n. code / 2 ^ s * 2 ^ s + n) suffix ∙ div-add-mod' code (2 ^ s)) in
+    let same : level_code s p x ≡ code = level_code-low s p x h (omega arith) ∙ parts in
+    (sym (ap (level_word s) (sym same) ∙ level_word-level_code s p x h (omega arith, fits)), (within, fits))
+
+pub low_above : (s code p bound : ℕ) → s < 7 → code < 14 * 2 ^ s → p ≡ code / 2 ^ s → bound < p → bound < (level_word s code).0
+low_above s code p bound h low prefix above =
+    let few = low_prefix s code low in
+    let word = low_word s code p (code % 2 ^ s) 20 h (omega arith) low prefix refl (omega arith) in
+    let first = ap (λ (w : ℕ × ℕ). w.0) word.0 in
+    omega arith
+
+-- the search begins at prefix 14
+pub high_start : (s code rest : ℕ) → s < 7 → 14 * 2 ^ s ≤ code → rest ≡ code - 14 * 2 ^ s → level_word s code ≡ word_from 7 s 14 rest
+unfolding level_word
+high_start s code rest h high less =
+    let before : span s 0 14 ≡ 14 * 2 ^ s = sym (level_code-first s 14 h (omega arith)) ∙ (level_code-low s 14 0 h (omega arith) ∙ omega arith) in
+    let at : code ≡ span s 0 14 + rest = omega (arith, before, less) in
+    ap (word_from 21 s 0) at ∙ word_from-span 14 7 s 0 rest
 
 -- ---- one turn of the search for the word
 
@@ -139,15 +179,23 @@ passed_here s p size x w e same within above =
 
 -- ---- writing a word
 
-pub level_stopped : {T E : Type 0} (s p x : ℕ) (old new : List Bool) (r : Result T E) → AppendsFront old new (binary (p + 1) 1) → IsErr r → Appends old new (word_bits s (p, x)) r
-level_stopped s p x old new r front err =
-    let P : List Bool → Type 0 = λ t. AppendsFront old new t in
-    Appends-stop old new (prefix_bits p) (binary (suffix_size s p) x) r (subst P (binary-prefix p) front) err
+-- the bits of a word are those of one number
+pub level_bits : (s p size x v : ℕ) → size ≡ suffix_size s p → x < 2 ^ size → v ≡ 2 ^ size + x → binary (p + 1 + size) v ≡ word_bits s (p, x)
+level_bits s p size x v same fits e =
+    let at : v ≡ 1 * 2 ^ size + x = omega arith in
+    let high : v / 2 ^ size ≡ 1 = ap (λ n. n / 2 ^ size) at ∙ shr_high 1 size x fits in
+    let low : binary size v ≡ binary size x = ap (binary size) at ∙ binary-high size 1 x in
+    binary-add (p + 1) size v
+    ∙ (ap (λ n. binary (p + 1) n ++ binary size v) high
+    ∙ (ap (λ t. t ++ binary size v) (binary-prefix p)
+    ∙ (ap (λ t. prefix_bits p ++ t) low ∙ ap (λ n. prefix_bits p ++ binary n x) same)))
 
-pub level_written : {T E : Type 0} (s p size x : ℕ) (old mid new : List Bool) (r : Result T E) → Appended old mid (binary (p + 1) 1) → size ≡ suffix_size s p → Appends mid new (binary size x) r → Appends old new (word_bits s (p, x)) r
-level_written s p size x old mid new r first same second =
-    let P : ℕ → Type 0 = λ n. Appends mid new (binary n x) r in
-    Appends-then old mid new (prefix_bits p) (binary (suffix_size s p) x) r (Appended-same old mid (binary (p + 1) 1) (prefix_bits p) (binary-prefix p) first) (subst P same second)
+pub level_bits-below : (p size x v : ℕ) → x < 2 ^ size → v ≡ 2 ^ size + x → v < 2 ^ (p + 1 + size)
+level_bits-below p size x v fits e = omega (arith, pow_next size, pow_most (size + 1) (p + 1 + size) (omega arith))
+
+pub level_written : {T E : Type 0} (s p size x v n : ℕ) (old new : List Bool) (r : Result T E) → size ≡ suffix_size s p → x < 2 ^ size → v ≡ 2 ^ size + x → n ≡ p + 1 + size → Appends old new (binary n v) r → Appends old new (word_bits s (p, x)) r
+level_written s p size x v n old new r same fits e count written =
+    Appends-same old new (binary n v) (word_bits s (p, x)) r (ap (λ k. binary k v) count ∙ level_bits s p size x v same fits e) written
 
 -- ---- a level in range needs no prefix above 20
 

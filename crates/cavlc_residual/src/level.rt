@@ -2,7 +2,7 @@ ghost use Rattle.std.specs.Prelude.{◌≡◌, ◌<◌, ◌≤◌, ◌^◌, ◌+
 ghost use Rattle.bit_texts.specs.Texts.{Reads, Appends};
 ghost use Rattle.cavlc_residual.specs.Level.{prefix_bits, suffix_size, level_code, level_word, word_bits, IsLevelWord};
 
-use exp_golomb::{BitSink, BitSource, read_u, write_u};
+use exp_golomb::{BitSink, BitSource, read_u};
 use std::alloc::AllocError as Memory;
 
 /// Reads a level_prefix of at most `bound`: that many zeros and a one.
@@ -66,15 +66,22 @@ pub fn code_of_level(suffix_length: u8, prefix: u8, suffix: u32) -> u32
 }
 
 /// The level_prefix and level_suffix of a levelCode. None exactly where the prefix would be
-/// above `bound`.
+/// above `bound`. Each prefix below 14 is that of 2^suffix_length codes; those from 14 on are searched.
 pub fn level_of_code(suffix_length: u8, code: u32, bound: u8) -> Option<(u8, u32)>
     requires small { suffix_length ≤ 6 }
     requires within { bound ≤ 20 }
     ensures found { IfSome result (λ w. (w ≡ level_word suffix_length code) × IsLevelWord suffix_length bound w) }
     ensures beyond { IfNone result (bound < (level_word suffix_length code).0) }
 {
-    let mut rest = code;
-    for prefix in 0..bound + 1 {
+    if code < 14 << suffix_length {
+        let prefix = (code >> suffix_length) as u8;
+        if prefix > bound {
+            return None;
+        }
+        return Some((prefix, code % (1 << suffix_length)));
+    }
+    let mut rest = code - (14 << suffix_length);
+    for prefix in 14..bound + 1 {
         let codes = 1 << size_of_suffix(suffix_length, prefix);
         if rest < codes {
             return Some((prefix, rest));
@@ -95,6 +102,6 @@ pub fn write_level<B: BitSink>(
     requires is_word { IsLevelWord suffix_length 20 (prefix, suffix) }
     ensures { Appends (B.bits b.old) (B.bits b.new) (word_bits suffix_length (prefix, suffix)) result }
 {
-    write_u(b, 1, prefix + 1)?;
-    write_u(b, suffix, size_of_suffix(suffix_length, prefix))
+    let size = size_of_suffix(suffix_length, prefix);
+    b.put_bits((1 << size) + u64::from(suffix), prefix + 1 + size)
 }
