@@ -1,7 +1,7 @@
-use Rattle.std.proofs.Common.{◌≡◌, ℕ, zero, suc, ◌+◌, ◌-◌, ◌*◌, ◌<◌, ◌≤◌, ℤ, pos, negsuc, Bool, true, false, cond, List, [], ◌∷◌, ◌++◌, length, get_or, take, drop, map, sum, filter, reverse, refl, sym, ap, ◌∙◌, subst, arith, ◌⊎◌, inl, inr, w32, to_z, of_z, Result, IsErr}
+use Rattle.std.proofs.Common.{◌≡◌, ℕ, zero, suc, ◌+◌, ◌-◌, ◌*◌, ◌<◌, ◌≤◌, ℤ, pos, negsuc, Bool, true, false, cond, List, [], ◌∷◌, ◌++◌, length, get_or, take, drop, map, sum, filter, reverse, refl, sym, ap, ◌∙◌, subst, arith, add-zero, append_assoc, ◌⊎◌, inl, inr, w32, to_z, of_z, Result, IsErr}
 use Rattle.std.specs.List.{AllByRecursion}
 use Rattle.std.proofs.lemmas.Int.{ints, to_z-of_z}
-use Rattle.std.proofs.lemmas.List.{reverse-append, drop_more, take_more, length-drop, length-reverse, take-append-drop}
+use Rattle.std.proofs.lemmas.List.{append-nil, reverse-append, drop_more, take_more, length-drop, length-reverse, take-append-drop}
 use Rattle.std.proofs.lemmas.List.Sums.{sum_by-cons}
 use Rattle.std.proofs.lemmas.Bool.{cases_Bool}
 use Rattle.cavlc_residual.proofs.Pieces.{AppendsFront, Appends-then, Appends-stop, Wrote-front}
@@ -82,43 +82,75 @@ runs-end left i rs old new text h wrote = Wrote-end old new text (runs_text left
   none (x ∷ []) h = refl
   none (x ∷ y ∷ xs) h = absurd (omega arith)
 
--- ---- separating the levels from the zeros
+-- ---- separating the levels from the zeros, from the highest frequency down
 
-pub down-next : (xs : List ℤ) (i : ℕ) (x : ℤ) → i < length xs → x ≡ get_or xs i (pos 0) → reverse (take (i + 1) xs) ≡ x ∷ reverse (take i xs)
-down-next xs i x h e =
-    ap reverse (take_more xs i (pos 0) h) ∙ (reverse-append (take i xs) (get_or xs i (pos 0) ∷ []) ∙ ap (λ y. y ∷ reverse (take i xs)) (sym e))
+pub down-next : (xs : List ℤ) (i k : ℕ) (x : ℤ) → k ≡ i + 1 → i < length xs → x ≡ get_or xs i (pos 0) → reverse (take k xs) ≡ x ∷ reverse (take i xs)
+down-next xs i k x at h e =
+    ap (λ n. reverse (take n xs)) at
+    ∙ (ap reverse (take_more xs i (pos 0) h) ∙ (reverse-append (take i xs) (get_or xs i (pos 0) ∷ []) ∙ ap (λ y. y ∷ reverse (take i xs)) (sym e)))
 
-pub reverse_push : {A : Type 0} (xs ys : List A) (x y : A) → ys ≡ xs ++ x ∷ [] → x ≡ y → reverse ys ≡ y ∷ reverse xs
-reverse_push xs ys x y e same = ap reverse e ∙ (reverse-append xs (x ∷ []) ∙ ap (λ z. z ∷ reverse xs) same)
+zero_i32 : (x : ℤ) → magnitude x ≤ 65535 → of_z w32 x ≡ 0 → x ≡ pos 0
+zero_i32 x small e = sym (same_i32 x small) ∙ ap (to_z w32) e
 
-pub record Separates (ds : List ℤ) (ls : List ℤ) (rs : List ℕ) (z : ℕ) : Type 0 where
-  pub levels : ls ≡ filter is_nonzero ds
-  pub runs : rs ≡ runs_of ds
-  pub behind : z ≡ leading_zeros ds
+pub nonzero_i32 : (x : ℤ) → (of_z w32 x ≡ 0 → ⊥) → is_nonzero x ≡ true
+nonzero_i32 x h = by (cases_Bool (is_nonzero x)) where
+  by : (is_nonzero x ≡ true) ⊎ (is_nonzero x ≡ false) → is_nonzero x ≡ true
+  by (inl e) = e
+  by (inr e) = absurd (h (ap (of_z w32) (zero_is x e)))
 
-pub separates-zero : (ds es ls : List ℤ) (rs : List ℕ) (z : ℕ) (x : ℤ) → magnitude x ≤ 65535 → of_z w32 x ≡ 0 → es ≡ x ∷ ds → Separates ds ls rs z → Separates es ls rs (z + 1)
-separates-zero ds es ls rs z x small e next h =
-    let none : x ≡ pos 0 = sym (same_i32 x small) ∙ ap (to_z w32) e in
-    let at : es ≡ pos 0 ∷ ds = next ∙ ap (λ y. y ∷ ds) none in
-    let P : List ℤ → Type 0 = λ t. Separates t ls rs (z + 1) in
-    subst P (sym at) record { levels = h.levels; runs = h.runs; behind = ap (λ n. n + 1) h.behind }
+-- a zero in front, which is behind no level, counts for nothing
+pub without_zero : (ds more : List ℤ) (x : ℤ) → magnitude x ≤ 65535 → of_z w32 x ≡ 0 → ds ≡ x ∷ more → (filter is_nonzero ds ≡ filter is_nonzero more) × (runs_of ds ≡ runs_of more)
+without_zero ds more x small e next =
+    let at : ds ≡ pos 0 ∷ more = next ∙ ap (λ y. y ∷ more) (zero_i32 x small e) in
+    (ap (filter is_nonzero) at, ap runs_of at)
 
-nonzero_i32 : (x : ℤ) → (of_z w32 x ≡ 0 → ⊥) → (is_nonzero x ≡ true) ⊎ (is_nonzero x ≡ false) → is_nonzero x ≡ true
-nonzero_i32 x h (inl e) = e
-nonzero_i32 x h (inr e) = absurd (h (ap (of_z w32) (zero_is x e)))
+-- the levels ls with the runs rs behind all but the last, z zeros behind that, and then the rest
+pub record Splits (ds rest ls : List ℤ) (rs : List ℕ) (z : ℕ) : Type 0 where
+  pub levels : filter is_nonzero ds ≡ ls ++ filter is_nonzero rest
+  pub runs : runs_of ds ≡ rs ++ (z + leading_zeros rest) ∷ runs_of rest
 
-pub separates-level : (ds es ls : List ℤ) (rs : List ℕ) (z : ℕ) (x : ℤ) → (of_z w32 x ≡ 0 → ⊥) → es ≡ x ∷ ds → Separates ds ls rs z → Separates es (x ∷ ls) (z ∷ rs) 0
-separates-level ds es ls rs z x ne next h =
-    let is = nonzero_i32 x ne (cases_Bool (is_nonzero x)) in
-    let P : List ℤ → Type 0 = λ t. Separates t (x ∷ ls) (z ∷ rs) 0 in
-    subst P (sym next) record {
-      levels = ap (λ t. x ∷ t) h.levels ∙ ap (λ b. cond b (x ∷ filter is_nonzero ds) (filter is_nonzero ds)) (sym is);
-      runs = ap (λ n. n ∷ rs) h.behind ∙ (ap (λ t. leading_zeros ds ∷ t) h.runs ∙ ap (λ b. cond b (leading_zeros ds ∷ runs_of ds) (runs_of ds)) (sym is));
-      behind = ap (λ b. cond b 0 (leading_zeros ds + 1)) (sym is);
+pub splits-start : (ds es rest ls : List ℤ) (rs : List ℕ) (z : ℕ) (x : ℤ) → is_nonzero x ≡ true → filter is_nonzero ds ≡ filter is_nonzero es → runs_of ds ≡ runs_of es → es ≡ x ∷ rest → ls ≡ x ∷ [] → rs ≡ [] → z ≡ 0 → Splits ds rest ls rs z
+splits-start ds es rest ls rs z x is same same_runs next level none zero_count = record {
+  levels =
+      same ∙ (ap (filter is_nonzero) next ∙ (ap (λ b. cond b (x ∷ filter is_nonzero rest) (filter is_nonzero rest)) is
+      ∙ ap (λ t. t ++ filter is_nonzero rest) (sym level)));
+  runs =
+      same_runs ∙ (ap runs_of next ∙ (ap (λ b. cond b (leading_zeros rest ∷ runs_of rest) (runs_of rest)) is
+      ∙ (ap (λ n. n ∷ runs_of rest) (let e : leading_zeros rest ≡ z + leading_zeros rest = omega (arith, zero_count) in e)
+      ∙ ap (λ t. t ++ (z + leading_zeros rest) ∷ runs_of rest) (sym none))));
+}
+
+pub splits-zero : (ds rest more ls ms : List ℤ) (rs ss : List ℕ) (z y : ℕ) (x : ℤ) → magnitude x ≤ 65535 → of_z w32 x ≡ 0 → rest ≡ x ∷ more → ms ≡ ls → ss ≡ rs → y ≡ z + 1 → Splits ds rest ls rs z → Splits ds more ms ss y
+splits-zero ds rest more ls ms rs ss z y x small e next kept kept_runs one known =
+    let at : rest ≡ pos 0 ∷ more = next ∙ ap (λ l. l ∷ more) (zero_i32 x small e) in
+    let count : z + leading_zeros rest ≡ y + leading_zeros more = ap (λ t. z + leading_zeros t) at ∙ omega (arith, one) in
+    record {
+      levels = known.levels ∙ (ap (λ t. ls ++ filter is_nonzero t) at ∙ ap (λ t. t ++ filter is_nonzero more) (sym kept));
+      runs =
+          known.runs ∙ (ap (λ t. rs ++ (z + leading_zeros rest) ∷ runs_of t) at
+          ∙ (ap (λ n. rs ++ n ∷ runs_of more) count ∙ ap (λ t. t ++ (y + leading_zeros more) ∷ runs_of more) (sym kept_runs)));
     }
 
-pub Separates-same : (ds ls ms : List ℤ) (rs ss : List ℕ) (z y : ℕ) → Separates ds ls rs z → ms ≡ ls → ss ≡ rs → y ≡ z → Separates ds ms ss y
-Separates-same ds ls ms rs ss z y h a b c = record { levels = a ∙ h.levels; runs = b ∙ h.runs; behind = c ∙ h.behind }
+pub splits-level : (ds rest more ls ms : List ℤ) (rs ss : List ℕ) (z y : ℕ) (x : ℤ) → is_nonzero x ≡ true → rest ≡ x ∷ more → ms ≡ ls ++ x ∷ [] → ss ≡ rs ++ z ∷ [] → y ≡ 0 → Splits ds rest ls rs z → Splits ds more ms ss y
+splits-level ds rest more ls ms rs ss z y x is next push push_run none known =
+    let level : filter is_nonzero rest ≡ x ∷ filter is_nonzero more = ap (filter is_nonzero) next ∙ ap (λ b. cond b (x ∷ filter is_nonzero more) (filter is_nonzero more)) is in
+    let run : runs_of rest ≡ leading_zeros more ∷ runs_of more = ap runs_of next ∙ ap (λ b. cond b (leading_zeros more ∷ runs_of more) (runs_of more)) is in
+    let front : leading_zeros rest ≡ 0 = ap leading_zeros next ∙ ap (λ b. cond b 0 (leading_zeros more + 1)) is in
+    let count : z + leading_zeros rest ≡ z = omega (arith, front) in
+    let fresh : leading_zeros more ≡ y + leading_zeros more = omega (arith, none) in
+    record {
+      levels = known.levels ∙ (ap (λ t. ls ++ t) level ∙ (sym (append_assoc ls (x ∷ []) (filter is_nonzero more)) ∙ ap (λ t. t ++ filter is_nonzero more) (sym push)));
+      runs =
+          known.runs ∙ (ap (λ n. rs ++ n ∷ runs_of rest) count ∙ (ap (λ t. rs ++ z ∷ t) run
+          ∙ (ap (λ n. rs ++ z ∷ n ∷ runs_of more) fresh
+          ∙ (sym (append_assoc rs (z ∷ []) ((y + leading_zeros more) ∷ runs_of more)) ∙ ap (λ t. t ++ (y + leading_zeros more) ∷ runs_of more) (sym push_run)))));
+    }
+
+pub splits-end : (ds rest ls : List ℤ) (rs ss : List ℕ) (z : ℕ) → rest ≡ [] → ss ≡ rs ++ z ∷ [] → Splits ds rest ls rs z → (ls ≡ filter is_nonzero ds) × (ss ≡ runs_of ds)
+splits-end ds rest ls rs ss z none push known = (
+  sym (known.levels ∙ (ap (λ t. ls ++ filter is_nonzero t) none ∙ append-nil ls)),
+  push ∙ sym (known.runs ∙ (ap (λ t. rs ++ (z + leading_zeros t) ∷ runs_of t) none ∙ ap (λ n. rs ++ n ∷ []) (add-zero z))),
+)
 
 pub small_element : (xs ys : List ℤ) (i : ℕ) → xs ≡ ys → AllByRecursion (λ l. magnitude l ≤ 65535) ys → i < length xs → magnitude (get_or xs i (pos 0)) ≤ 65535
 small_element xs ys i e all h = let P : List ℤ → Type 0 = λ t. AllByRecursion (λ l. magnitude l ≤ 65535) t in all_at (λ l. magnitude l ≤ 65535) xs i (subst P (sym e) all) h

@@ -1,4 +1,4 @@
-ghost use Rattle.std.specs.Prelude.{◌≡◌, ◌≢◌, ◌-◌, ◌<◌, ◌≤◌, ◌↔◌, IsTrue, true, false, length, map, take, drop, filter, reverse, sum};
+ghost use Rattle.std.specs.Prelude.{◌≡◌, ◌≢◌, ◌-◌, ◌<◌, ◌≤◌, ◌↔◌, IsTrue, true, false, length, map, take, drop, filter, reverse, sum, pos, slice_index_or};
 ghost use Rattle.std.specs.List.{AllByRecursion};
 ghost use Rattle.arrayvec.specs.ArrayVec.{array_vec_len};
 ghost use Rattle.bit_texts.specs.Texts.{Appends};
@@ -9,6 +9,25 @@ use crate::coefficients::{Coefficients, is_prefix_above, suffix_length_after, wr
 use crate::runs::{Runs, write_run};
 use exp_golomb::BitSink;
 use std::alloc::AllocError as Memory;
+
+/// How many levels stand before the zeros at the end.
+fn count_before_zeros(levels: &[i32]) -> usize
+    requires { AllByRecursion (λ l. magnitude l ≤ 65535) levels.now }
+    ensures within { result ≤ length levels.now }
+    ensures levels { filter is_nonzero (reverse levels.now) ≡ filter is_nonzero (reverse (take result levels.now)) }
+    ensures runs { runs_of (reverse levels.now) ≡ runs_of (reverse (take result levels.now)) }
+    ensures last { 0 < result → is_nonzero (slice_index_or levels.now (result - 1) (pos 0)) ≡ true }
+{
+    let mut count = levels.len();
+    while count > 0 {
+        let level = levels[count - 1];
+        if level != 0 {
+            return count;
+        }
+        count -= 1;
+    }
+    0
+}
 
 /// The levels other than 0, from the highest frequency down, and the runs of zeros behind them.
 pub fn separate(levels: &[i32]) -> (Coefficients, Runs)
@@ -21,18 +40,25 @@ pub fn separate(levels: &[i32]) -> (Coefficients, Runs)
 {
     let mut coefficients = Coefficients::new();
     let mut runs = Runs::new();
+    let count = count_before_zeros(levels);
+    if count == 0 {
+        return (coefficients, runs);
+    }
+    coefficients.push(levels[count - 1]);
     let mut zeros = 0u8;
-    for level in levels {
-        if *level == 0 {
+    let mut left = count - 1;
+    while left > 0 {
+        left -= 1;
+        let level = levels[left];
+        if level == 0 {
             zeros += 1;
         } else {
-            coefficients.push(*level);
+            coefficients.push(level);
             runs.push(zeros);
             zeros = 0;
         }
     }
-    coefficients.as_mut_slice().reverse();
-    runs.as_mut_slice().reverse();
+    runs.push(zeros);
     (coefficients, runs)
 }
 

@@ -1,29 +1,40 @@
-use Rattle.std.proofs.Common.{◌<◌, pos, length, get_or, reverse, refl, ap, ◌∙◌, arith}
-use Rattle.cavlc_residual.proofs.WriteLemmas.{reverse_push, Separates-same, separates-zero, separates-level, down-next, small_element, same_i32}
+use Rattle.std.proofs.Common.{◌<◌, ◌-◌, ◌++◌, ◌∷◌, [], pos, length, get_or, refl, ap, ◌∙◌, arith, to_z, of_z, w32}
+use Rattle.cavlc_residual.proofs.WriteLemmas.{splits-start, splits-level, down-next, nonzero_i32, small_element, same_i32}
 use Rattle.cavlc_residual.proofs.writing.separate.Goals as goal
-use Rattle.cavlc_residual.proofs.writing.separate.Goals.{then-level-eq0, else-level-eq0}
 
-pub loop-level-preserved : goal.loop-level-preserved
-loop-level-preserved c =
+pub loop-left-init : goal.loop-left-init
+loop-left-init c =
     let xs = c.args.levels.now in
-    let i = c.loop-level.level-index in
+    let count = c.count_before_zeros-count.result in
+    let x = get_or xs (count - 1) (pos 0) in
+    let known = c.count_before_zeros-count.ensures in
+    let some : 0 < count = omega (arith, c.if-count-eq0.false) in
+    let within : count - 1 < length xs = omega (arith, some, known.within) in
+    let small = small_element xs xs (count - 1) refl c.requires.small within in
+    let next = down-next xs (count - 1) count x (omega (arith, some)) within refl in
+    let none = ap (λ t. length t) c.new-coefficients.ensures in
+    let none_runs = ap (λ t. length t) c.new-runs.ensures in
+    record {
+      splits =
+          splits-start _ _ _ _ _ _ x (known.last some) known.levels known.runs next
+          (c.push.ensures.items ∙ (ap (λ t. t ++ to_z w32 (of_z w32 x) ∷ []) c.new-coefficients.ensures ∙ ap (λ y. y ∷ []) (same_i32 x small))) c.new-runs.ensures refl;
+      count = omega (arith, c.push.ensures.len, none, within);
+      pairs = omega (arith, c.push.ensures.len, none, none_runs);
+    }
+
+pub loop-left-preserved : goal.loop-left-preserved
+loop-left-preserved c =
+    let xs = c.args.levels.now in
+    let i = c.loop-left.left - 1 in
     let x = get_or xs i (pos 0) in
-    let within : i < length xs = omega arith in
-    let small = small_element xs _ i refl c.requires.small within in
-    let next = down-next xs i x within refl in
-    let known = c.loop-level.invariant.separates in
-    elim c.if-level-eq0.branch [
-      | then-level-eq0 w ↦ record {
-        separates = Separates-same _ _ _ _ _ _ _ (separates-zero _ _ _ _ _ x small w.if-level-eq0.true next known)
-            (ap (λ v. reverse v.items) w.coefficients-is) (ap (λ v. reverse v.items) w.runs-is) w.zeros-is;
-        count = omega (arith, ap (λ v. length v.items) w.coefficients-is, w.zeros-is);
-        pairs = omega (arith, ap (λ v. length v.items) w.coefficients-is, ap (λ v. length v.items) w.runs-is);
-      }
-      | else-level-eq0 w ↦ record {
-        separates = Separates-same _ _ _ _ _ _ _ (separates-level _ _ _ _ _ x w.if-level-eq0.false next known)
-            (reverse_push _ _ _ _ (ap (λ v. v.items) w.coefficients-is ∙ w.push.ensures.items) (same_i32 x small))
-            (reverse_push _ _ _ _ (ap (λ v. v.items) w.runs-is ∙ w.push-else-level-eq0.ensures.items) refl) w.zeros-is;
-        count = omega (arith, ap (λ v. length v.items) w.coefficients-is, w.push.ensures.len, w.zeros-is);
-        pairs = omega (arith, ap (λ v. length v.items) w.coefficients-is, ap (λ v. length v.items) w.runs-is, w.push.ensures.len, w.push-else-level-eq0.ensures.len);
-      }
-    ]
+    let known = c.loop-left.invariant in
+    let within : i < length xs = omega (arith, known.count, c.loop-left-test.true) in
+    let small = small_element xs xs i refl c.requires.small within in
+    let next = down-next xs i c.loop-left.left x (omega (arith, c.loop-left-test.true)) within refl in
+    record {
+      splits =
+          splits-level _ _ _ _ _ _ _ _ _ x (nonzero_i32 x c.if-level-eq0.false) next
+          (c.push-else-level-eq0.ensures.items ∙ ap (λ y. c.loop-left.coefficients.items ++ y ∷ []) (same_i32 x small)) c.push-else-level-eq0-2.ensures.items refl known.splits;
+      count = omega (arith, c.push-else-level-eq0.ensures.len, known.count, c.loop-left-test.true);
+      pairs = omega (arith, c.push-else-level-eq0.ensures.len, c.push-else-level-eq0-2.ensures.len, known.pairs);
+    }
