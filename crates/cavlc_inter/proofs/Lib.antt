@@ -1,0 +1,7 @@
+pub mod Firsts
+pub mod Elements
+pub mod Codes
+pub mod SubLaws
+pub mod InterChain
+pub mod Places
+pub mod InterValid

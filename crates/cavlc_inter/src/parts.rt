@@ -1,0 +1,79 @@
+ghost use Rattle.std.specs.Prelude.{◌≡◌, ◌<◌};
+ghost use Rattle.h264_types.specs.Partition.{partition_of, part_of};
+ghost use Rattle.cavlc_inter.specs.Parts.{first_of};
+ghost use Rattle.cavlc_inter.specs.InterPrediction as inter;
+
+use h264_types::MbKind;
+
+/// What tells the parts of a macroblock: its type, and sub_mb_type of each quarter.
+#[derive(Clone, Copy)]
+pub struct Parts {
+    pub kind: MbKind,
+    pub subs: [u8; 4],
+}
+
+impl Parts {
+    /// The first quarter of the partition that covers quarter q.
+    pub fn first_quarter(&self, q: u8) -> u8
+        requires { q < 4 }
+        ensures { result ≡ first_of (partition_of self.now.kind) q }
+    {
+        for r in 0..q {
+            if self.kind.partition(r) == self.kind.partition(q) {
+                return r;
+            }
+        }
+        q
+    }
+
+    /// A number that the blocks of one part share.
+    fn part(&self, n: u8) -> u8
+        requires { n < 16 }
+        ensures { result ≡ part_of self.now.kind self.now.subs n }
+    {
+        let partition = 4 * self.kind.partition(n / 4);
+        if self.kind.has_sub_macroblocks() {
+            let sub = self.subs[usize::from(n / 4)];
+            return partition + self.kind.sub_partition(sub, n % 4);
+        }
+        partition
+    }
+
+    /// The first block of the part that has block n.
+    pub fn first_block(&self, n: u8) -> u8
+        requires { n < 16 }
+        ensures { result ≡ first_of (part_of self.now.kind self.now.subs) n }
+    {
+        for m in 0..n {
+            if self.part(m) == self.part(n) {
+                return m;
+            }
+        }
+        n
+    }
+
+    /// Whether a quarter is predicted from list 0 or 1 by what is sent.
+    pub fn uses(&self, list: u8, q: u8) -> bool
+        requires { q < 4 }
+        ensures { result ≡ inter.uses self.now list q }
+    {
+        let sub = self.subs[usize::from(q)];
+        self.kind.prediction(sub, q).uses(list)
+    }
+
+    /// Whether the reference index of a list is sent at quarter q.
+    pub fn sends_ref(&self, list: u8, greatest: u8, q: u8) -> bool
+        requires { q < 4 }
+        ensures { result ≡ inter.sends_ref self.now list greatest q }
+    {
+        self.first_quarter(q) == q && greatest > 0 && self.uses(list, q)
+    }
+
+    /// Whether the vector difference of a list is sent at block n.
+    pub fn sends_mvd(&self, list: u8, n: u8) -> bool
+        requires { n < 16 }
+        ensures { result ≡ inter.sends_mvd self.now list n }
+    {
+        self.first_block(n) == n && self.uses(list, n / 4)
+    }
+}

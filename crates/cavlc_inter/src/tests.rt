@@ -1,0 +1,120 @@
+use super::*;
+use exp_golomb::{BitSink, BitVec, SliceBits};
+use h264_types::{Mb, MbKind};
+use std::alloc::Global;
+use std::test::Fail;
+
+/// The bytes of a prediction that was read and written again, with a one bit and zero bits behind it; none where none was
+/// read.
+fn read_and_written(
+    alloc: Global,
+    ref0: bool,
+    active: [u8; 2],
+    bytes: &[u8],
+    mb: &mut Mb,
+) -> Result<Vec<u8>, Fail> {
+    mb.ref0 = ref0;
+    let kind = mb.kind;
+    let mut bits = SliceBits::new(bytes);
+    let Some(()) = read_inter(&mut bits, kind, ref0, active, mb) else {
+        return Ok(Vec::new(alloc));
+    };
+    let mut text = BitVec::new(alloc);
+    write_inter(&mut text, active, mb)?;
+    text.put(true)?;
+    for _zero in 0..7u8 {
+        if !text.aligned() {
+            text.put(false)?;
+        }
+    }
+    if text.aligned() {
+        return Ok(text.into_bytes());
+    }
+    Ok(Vec::new(alloc))
+}
+
+/// A text, behind which a one bit and zero bits stand. `known` says whether it is one of its type.
+#[derive(Clone, Copy)]
+struct Text {
+    kind: MbKind,
+    ref0: bool,
+    active: [u8; 2],
+    bytes: &'static [u8],
+    known: bool,
+}
+
+fn known_text(kind: MbKind, active: [u8; 2], bytes: &'static [u8]) -> Text {
+    Text {
+        kind,
+        ref0: false,
+        active,
+        bytes,
+        known: true,
+    }
+}
+
+#[test]
+fn known_texts(rt: HostRuntime) -> Result<(), Fail> {
+    let cases = [
+        // P_L0_16x16 with one, two and three references
+        known_text(MbKind::P(0), [1, 0], &[0x4e]),
+        known_text(MbKind::P(0), [2, 0], &[0x70]),
+        known_text(MbKind::P(0), [3, 0], &[0x64, 0xc0]),
+        // P_L0_L0_8x16
+        known_text(MbKind::P(2), [2, 0], &[0xb5, 0x80]),
+        // P_8x8 of 8x8, 8x4, 4x8 and 4x4
+        known_text(MbKind::P(3), [1, 0], &[0xa6, 0x4d, 0x6b, 0x7f, 0xee]),
+        // P_8x8ref0 has no index; as P_8x8 the bits end too early
+        Text {
+            ref0: true,
+            ..known_text(MbKind::P(3), [2, 0], &[0xff, 0xf8])
+        },
+        Text {
+            known: false,
+            ..known_text(MbKind::P(3), [2, 0], &[0xff, 0xf8])
+        },
+        // no sub_mb_type of P is 4
+        Text {
+            known: false,
+            ..known_text(MbKind::P(3), [1, 0], &[0x2f, 0xff, 0x80])
+        },
+        // B_Direct_16x16, B_Bi_16x16, B_L0_L1_16x8
+        known_text(MbKind::B(0), [2, 2], &[0x80]),
+        known_text(MbKind::B(3), [2, 2], &[0x96, 0xe0]),
+        known_text(MbKind::B(8), [1, 1], &[0x5a, 0x80]),
+        // B_8x8 of direct, L1 8x8, Bi 4x4 and direct
+        known_text(MbKind::B(22), [1, 1], &[0xb1, 0xbf, 0xd6, 0xbf, 0xe0]),
+    ];
+    for case in &cases {
+        let mut mb = Mb::without_elements(case.kind);
+        let text = read_and_written(rt.alloc(), case.ref0, case.active, case.bytes, &mut mb)?;
+        let due: &[u8] = if case.known { case.bytes } else { &[] };
+        assert_eq!(rt; text.as_slice(), due);
+    }
+    Ok(())
+}
+
+#[test]
+fn elements_of_p_8x8(rt: HostRuntime) -> Result<(), Fail> {
+    let mut mb = Mb::without_elements(MbKind::P(3));
+    let bytes = [0xa6, 0x4d, 0x6b, 0x7f, 0xee];
+    read_and_written(rt.alloc(), false, [1, 0], &bytes, &mut mb)?;
+    assert_eq!(rt; mb.subs, [0, 1, 2, 3]);
+    assert_eq!(rt; mb.mvd[0][5], [1, 0]);
+    assert_eq!(rt; mb.mvd[0][6], [0, 1]);
+    assert_eq!(rt; mb.mvd[0][10], [0, 0]);
+    assert_eq!(rt; mb.mvd[0][11], [-1, 0]);
+    assert_eq!(rt; mb.mvd[0][15], [0, -1]);
+    Ok(())
+}
+
+#[test]
+fn elements_of_b_bi_16x16(rt: HostRuntime) -> Result<(), Fail> {
+    let mut mb = Mb::without_elements(MbKind::B(3));
+    read_and_written(rt.alloc(), false, [2, 2], &[0x96, 0xe0], &mut mb)?;
+    assert_eq!(rt; mb.refs[0], [0; 4]);
+    assert_eq!(rt; mb.refs[1], [1; 4]);
+    assert_eq!(rt; mb.mvd[0][7], [1, 0]);
+    assert_eq!(rt; mb.mvd[1][15], [0, -1]);
+    Ok(())
+}
