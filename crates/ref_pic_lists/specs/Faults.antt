@@ -1,4 +1,4 @@
--- What a reader's fault says of the bits. No value of an element that can be read is refused.
+-- What a reader's fault says of the bits. Nothing is refused for its value: what is out of its range is no reading.
 use Rattle.std.specs.Prelude.{◌≡◌}
 use Rattle.exp_golomb.specs.Syntax.{Outcome, NoText}
 use Rattle.ref_pic_lists.specs.declared.fault.ListFault.{ListFault}
