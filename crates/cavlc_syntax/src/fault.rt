@@ -1,7 +1,3 @@
-ghost use Rattle.std.specs.Prelude.{◌≡◌};
-ghost use Rattle.cavlc_syntax.specs.declared.fault.PutFault.TheVariants.{Memory};
-
-use std::alloc::AllocError;
 use thiserror::Error;
 
 /// Why bits give no further macroblock of a slice, and no end of it.
@@ -24,12 +20,4 @@ pub enum PutFault {
     /// No memory was left.
     #[error("out of memory")]
     Memory,
-}
-
-impl From<AllocError> for PutFault {
-    ghost from_gives = { λ _ e. e ≡ Memory };
-
-    fn from(_e: AllocError) -> PutFault {
-        PutFault::Memory
-    }
 }

@@ -97,8 +97,8 @@ fn levels_are_written_again(rt: HostRuntime) -> Result<(), Fail> {
     Ok(())
 }
 
-/// The units of a picture of three macroblocks by two, as an encoder wrote it: profile High with scaling lists, I_NxN and
-/// Intra_16x16 macroblocks, of which each has neighbours.
+/// The units of a picture of three macroblocks by two, as an encoder wrote it: profile High with scaling lists, four
+/// macroblocks of I_NxN and two of Intra_16x16.
 const ENCODED_SPS: &[u8] = &[
     0x67, 0x64, 0x10, 0x0A, 0xAC, 0xB9, 0xAD, 0x80, 0x88, 0, 0, 3, 0, 8, 0, 0, 3, 1, 0x94, 0x20,
 ];
