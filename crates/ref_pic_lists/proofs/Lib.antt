@@ -4,3 +4,4 @@ pub mod Written
 pub mod ModificationTexts
 pub mod Entries
 pub mod WeightTexts
+pub mod AnyRefusal

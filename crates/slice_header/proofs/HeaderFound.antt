@@ -1,25 +1,38 @@
 -- Whole headers: what is read is in range under the sets it names, and has its text; and the text is read again.
-use Rattle.std.proofs.Common.{◌≡◌, ℕ, ◌≤◌, Bool, true, false, not, List, [], ◌∷◌, ◌++◌, Option, Some, None, Result, Ok, Err, refl, sym, ap, subst, ◌∙◌, arith, append_assoc}
-use Rattle.std.specs.Prelude.{◌&&◌, IfOk}
-use Rattle.std.proofs.lemmas.Bool.Decides.{nat_tests}
+use Rattle.std.proofs.Common.{◌≡◌, ℕ, ℤ, ◌≤◌, Bool, true, false, List, [], ◌∷◌, ◌++◌, Option, Some, None, Result, Ok, Err, refl, sym, ap, subst, ◌∙◌, arith, append_assoc}
+use Rattle.std.specs.Prelude.{IfOk}
 use Rattle.exp_golomb.specs.Code.{Ue, ue, se}
-use Rattle.exp_golomb.specs.Syntax.{Syntax, Outcome, Found, Spells, outcome_of, Answers, ◌>>=◌, joined, refused_where}
+use Rattle.exp_golomb.specs.Syntax.{Syntax, Done, Outcome, Found, Spells, outcome_of, Answers, ◌>>=◌, joined}
 use Rattle.exp_golomb.proofs.Fronts.{in_ue}
 use Rattle.exp_golomb.proofs.Syntaxes.{spelled}
 use Rattle.exp_golomb.proofs.Written.{element_again, done_again, not_refused, part_again}
 use Rattle.param_sets.proofs.SetLaws.{nothing_spelled}
 use Rattle.param_sets.proofs.Spelled.{found_then, found_allowed, same_found, Begins, begins, begins_then, begins_last, ue_most}
 use Rattle.param_sets.specs.Sets.{SetMaps, find_pps, find_sps}
-use Rattle.slice_header.specs.Refusal.{Refusal, OutsideProfile, NoPps, NoSps, NotBuilt, header_says}
-use Rattle.slice_header.specs.When.{element_when, code_when, IsInWhen}
-use Rattle.slice_header.specs.RefPicMarking.{dec_ref_pic_marking, marking_text, MarkingFits}
-use Rattle.slice_header.specs.SliceHeader.{Active, Start, is_i, is_switching, known, breaks_main, active_sets, slice_start, is_built, picture_number, picture_order, slice_qp_y, is_qp, slice_qp, deblocking, has_init, after_start, slice_header}
-use Rattle.slice_header.specs.HeaderCodes.{start_text, picture_text, order_text, deblocking_text, header_text, picture_of, order_of, marking_of, filter_of, PictureFits, OrderFits, DeblockingFits, IsDelta, HeaderFits, Names, IsUnder, IsAllowed, HeaderText, ReadsHeader}
-use Rattle.slice_header.specs.declared.header.Header.{Header}
-use Rattle.slice_header.specs.declared.fault.HeaderFault.{HeaderFault}
-use Rattle.slice_header.specs.declared.fault.HeaderFault.TheVariants.{NoReading, MissingPps, MissingSps, Profile, Unbuilt, Memory}
-use Rattle.slice_header.proofs.HeaderTexts.{when_spelled, when_again, picture_spelled, picture_again, order_spelled, order_again, qp_spelled, qp_again, filter_spelled, filter_again}
-use Rattle.slice_header.proofs.MarkingTexts.{marking_spelled, marking_again}
+use Rattle.header_parts.specs.ActiveSets.{Active}
+use Rattle.header_parts.specs.PartsOf.{picture_of, order_of, references_of, lists_of, marking_of, filter_of}
+use Rattle.header_parts.specs.Picture.{picture_number, picture_order, picture_text, order_text, PictureFits, OrderFits, IsDelta}
+use Rattle.header_parts.specs.QuantisationAndFilter.{slice_qp_y, is_qp, slice_qp, deblocking, deblocking_text, DeblockingFits}
+use Rattle.header_parts.specs.ReferenceLists.{reference_lists, lists_text, ListsFit}
+use Rattle.header_parts.specs.References.{active_references, references_text, ReferencesFit}
+use Rattle.header_parts.specs.Refusal.{Refusal, OutsideProfile, NoPps, NoSps, header_says}
+use Rattle.header_parts.specs.RefPicMarking.{dec_ref_pic_marking, marking_text, MarkingFits}
+use Rattle.header_parts.specs.SliceTypes.{is_switching}
+use Rattle.header_parts.specs.When.{element_when, code_when, IsInWhen}
+use Rattle.header_parts.specs.declared.fault.HeaderFault.{HeaderFault}
+use Rattle.header_parts.specs.declared.fault.HeaderFault.TheVariants.{NoReading, MissingPps, MissingSps, Profile, Memory}
+use Rattle.header_parts.specs.declared.header.Header.{Header}
+use Rattle.header_parts.specs.declared.parts.PictureNumber.{PictureNumber}
+use Rattle.header_parts.specs.declared.parts.PictureOrder.{PictureOrder}
+use Rattle.header_parts.specs.declared.parts.ActiveReferences.{ActiveReferences}
+use Rattle.header_parts.specs.declared.parts.ReferenceLists.{ReferenceLists}
+use Rattle.header_parts.specs.declared.parts.Marking.{Marking}
+use Rattle.header_parts.specs.declared.parts.Deblocking.{Deblocking}
+use Rattle.header_parts.proofs.PartTexts.{when_spelled, when_again, picture_spelled, picture_again, order_spelled, order_again, qp_spelled, qp_again, filter_spelled, filter_again}
+use Rattle.header_parts.proofs.MarkingTexts.{marking_spelled, marking_again}
+use Rattle.header_parts.proofs.ReferenceTexts.{references_spelled, references_again, lists_spelled, lists_again}
+use Rattle.slice_header.specs.SliceHeader.{Start, known, breaks_main, active_sets, slice_start, has_init, after_start, slice_header}
+use Rattle.slice_header.specs.HeaderCodes.{start_text, header_text, HeaderFits, Names, IsUnder, IsAllowed, HeaderText, ReadsHeader}
 
 -- ---- the sets that are named
 
@@ -64,6 +77,7 @@ record StartFound (sets : SetMaps) (bits : List Bool) (start : Start) (rest : Li
   first_mb_in_slice : start.first_mb_in_slice ≤ 139263
   slice_type : start.slice_type ≤ 9
   pic_parameter_set_id : start.pic_parameter_set_id ≤ 255
+  in_scope : is_switching start.slice_type ≡ false
   active : AreActive sets start.pic_parameter_set_id start.active
   text : Begins (numbers start.first_mb_in_slice start.slice_type start.pic_parameter_set_id) bits rest
 
@@ -80,6 +94,7 @@ start_spelled sets bits start rest h =
       first_mb_in_slice = ue_most 139263 h.0 h.2;
       slice_type = ue_most 9 slice_type.0 slice_type.2;
       pic_parameter_set_id = ue_most 255 number.0 number.2;
+      in_scope = scope.0;
       active = active.0;
       text = begins_then (begins h.3) (begins_then (begins slice_type.3) (begins_last (begins (number.3 ∙ ap (λ t. ue number.0 ++ t) active.1))));
     })
@@ -87,18 +102,14 @@ start_spelled sets bits start rest h =
     done : (found : Start) (tail : List Bool) → start ≡ found → rest ≡ tail → StartFound sets bits found tail → StartFound sets bits start rest
     done found tail e k so = rw (e, k) so
 
--- I slices are no SP or SI slices
-i_is_in_scope : (slice_type : ℕ) → is_i slice_type ≡ true → is_switching slice_type ≡ false
-i_is_in_scope slice_type h = grind (arith, nat_tests)
-
-start_again : (sets : SetMaps) (start : Start) (rest : List Bool) → start.first_mb_in_slice ≤ 139263 → start.slice_type ≤ 9 → start.pic_parameter_set_id ≤ 255 → is_i start.slice_type ≡ true → AreActive sets start.pic_parameter_set_id start.active
+start_again : (sets : SetMaps) (start : Start) (rest : List Bool) → start.first_mb_in_slice ≤ 139263 → start.slice_type ≤ 9 → start.pic_parameter_set_id ≤ 255 → is_switching start.slice_type ≡ false → AreActive sets start.pic_parameter_set_id start.active
     → outcome_of (slice_start sets) (numbers start.first_mb_in_slice start.slice_type start.pic_parameter_set_id ++ rest) ≡ Found start rest
 unfolding slice_start
-start_again sets start rest first slice_type number i_slice active =
+start_again sets start rest first slice_type number in_scope active =
     simp append_assoc (
     element_again (Ue 139263) _ start.first_mb_in_slice _ (in_ue 139263 _ first (omega arith))
     ∙ element_again (Ue 9) _ start.slice_type _ (in_ue 9 _ slice_type (omega arith))
-    ∙ not_refused _ _ _ _ (i_is_in_scope start.slice_type i_slice)
+    ∙ not_refused _ _ _ _ in_scope
     ∙ element_again (Ue 255) _ start.pic_parameter_set_id _ (in_ue 255 _ number (omega arith))
     ∙ part_again (active_sets sets start.pic_parameter_set_id) _ start.active _ _ (active_again sets start.pic_parameter_set_id start.active rest active)
     ∙ done_again start rest)
@@ -109,6 +120,8 @@ abbrev after_text : Active → Header → List Bool
 after_text active h = joined (
     picture_text active.sps h.nal (picture_of h)
     ∷ order_text active h.field_pic_flag (order_of h)
+    ∷ references_text h.slice_type (references_of h)
+    ∷ lists_text h.slice_type (lists_of h)
     ∷ marking_text h.nal (marking_of h)
     ∷ code_when (has_init active.pps h.slice_type) (Ue 2) h.cabac_init_idc
     ∷ se h.slice_qp_delta
@@ -122,6 +135,8 @@ record AfterFound (nal : ℕ) (start : Start) (bits : List Bool) (h : Header) (r
   number_is : h.pic_parameter_set_id ≡ start.pic_parameter_set_id
   picture : PictureFits start.active.sps h.nal (picture_of h)
   order : OrderFits start.active h.field_pic_flag (order_of h)
+  references : ReferencesFit start.active.pps h.slice_type h.field_pic_flag (references_of h)
+  lists : ListsFit start.active.pps h.slice_type (references_of h) (lists_of h)
   marking : MarkingFits h.nal (marking_of h)
   cabac_init_idc : IsInWhen (has_init start.active.pps h.slice_type) (Ue 2) 0 h.cabac_init_idc
   slice_qp_delta : IsDelta h.slice_qp_delta
@@ -129,42 +144,126 @@ record AfterFound (nal : ℕ) (start : Start) (bits : List Bool) (h : Header) (r
   filter : DeblockingFits start.active.pps.deblocking_filter_control_present_flag (filter_of h)
   text : Begins (after_text start.active h) bits rest
 
+-- the parts of a header
+abbrev whole : ℕ → Start → PictureNumber → PictureOrder → ActiveReferences → ReferenceLists → Marking → ℕ → ℤ → Deblocking → Header
+whole nal start picture order references lists marking cabac_init_idc slice_qp_delta filter =
+    record {
+      nal = nal;
+      first_mb_in_slice = start.first_mb_in_slice;
+      slice_type = start.slice_type;
+      pic_parameter_set_id = start.pic_parameter_set_id;
+      frame_num = picture.frame_num;
+      field_pic_flag = picture.field_pic_flag;
+      bottom_field_flag = picture.bottom_field_flag;
+      idr_pic_id = picture.idr_pic_id;
+      pic_order_cnt_lsb = order.pic_order_cnt_lsb;
+      delta_pic_order_cnt_bottom = order.delta_pic_order_cnt_bottom;
+      delta_pic_order_cnt = order.delta_pic_order_cnt;
+      direct_spatial_mv_pred_flag = references.direct_spatial_mv_pred_flag;
+      num_ref_idx_active_override_flag = references.num_ref_idx_active_override_flag;
+      num_ref_idx_l0_active_minus1 = references.num_ref_idx_l0_active_minus1;
+      num_ref_idx_l1_active_minus1 = references.num_ref_idx_l1_active_minus1;
+      modification_l0 = lists.modification_l0;
+      modification_l1 = lists.modification_l1;
+      pred_weight_table = lists.pred_weight_table;
+      no_output_of_prior_pics_flag = marking.no_output_of_prior_pics_flag;
+      long_term_reference_flag = marking.long_term_reference_flag;
+      adaptive_ref_pic_marking_mode_flag = marking.adaptive_ref_pic_marking_mode_flag;
+      memory_management_control_operation = marking.operations;
+      cabac_init_idc = cabac_init_idc;
+      slice_qp_delta = slice_qp_delta;
+      disable_deblocking_filter_idc = filter.disable_deblocking_filter_idc;
+      slice_alpha_c0_offset_div2 = filter.slice_alpha_c0_offset_div2;
+      slice_beta_offset_div2 = filter.slice_beta_offset_div2;
+    }
+
+-- from the marking on
+last_parts : {A : Type 0} → ℕ → Start → (Marking → ℕ → ℤ → Deblocking → A) → Syntax Refusal A
+last_parts nal start make =
+    dec_ref_pic_marking nal >>= (λ marking.
+    element_when (has_init start.active.pps start.slice_type) (Ue 2) 0 >>= (λ cabac_init_idc.
+    slice_qp start.active.pps >>= (λ slice_qp_delta.
+    deblocking start.active.pps.deblocking_filter_control_present_flag >>= (λ filter. Done (make marking cabac_init_idc slice_qp_delta filter)))))
+
+abbrev last_text : ℕ → Start → Marking → ℕ → ℤ → Deblocking → List Bool
+last_text nal start marking cabac_init_idc slice_qp_delta filter = joined (
+    marking_text nal marking
+    ∷ code_when (has_init start.active.pps start.slice_type) (Ue 2) cabac_init_idc
+    ∷ se slice_qp_delta
+    ∷ deblocking_text start.active.pps.deblocking_filter_control_present_flag filter
+    ∷ [])
+
+record LastFound {A : Type 0} (nal : ℕ) (start : Start) (make : Marking → ℕ → ℤ → Deblocking → A) (bits : List Bool) (value : A) (rest : List Bool) : Type 0 where
+  marking : Marking
+  cabac_init_idc : ℕ
+  slice_qp_delta : ℤ
+  filter : Deblocking
+  is : value ≡ make marking cabac_init_idc slice_qp_delta filter
+  marking_fits : MarkingFits nal marking
+  idc_fits : IsInWhen (has_init start.active.pps start.slice_type) (Ue 2) 0 cabac_init_idc
+  delta_fits : IsDelta slice_qp_delta
+  qp_fits : is_qp (slice_qp_y start.active.pps slice_qp_delta) ≡ true
+  filter_fits : DeblockingFits start.active.pps.deblocking_filter_control_present_flag filter
+  text : Begins (last_text nal start marking cabac_init_idc slice_qp_delta filter) bits rest
+
+last_spelled : {A : Type 0} (nal : ℕ) (start : Start) (make : Marking → ℕ → ℤ → Deblocking → A) (bits : List Bool) (value : A) (rest : List Bool) → Spells (last_parts nal start make) bits (Found value rest) → LastFound nal start make bits value rest
+unfolding last_parts
+last_spelled {A} nal start make bits value rest s =
+    let pps = start.active.pps in
+    let init = has_init pps start.slice_type in
+    let present = pps.deblocking_filter_control_present_flag in
+    let c = found_then (dec_ref_pic_marking nal) _ bits value rest s in
+    let d = found_then (element_when init (Ue 2) 0) _ c.1 value rest c.3 in
+    let e = found_then (slice_qp pps) _ d.1 value rest d.3 in
+    let f = found_then (deblocking present) _ e.1 value rest e.3 in
+    let marking = marking_spelled nal bits c.0 c.1 c.2 in
+    let idc = when_spelled init (Ue 2) 0 c.1 d.0 d.1 d.2 in
+    let qp = qp_spelled pps d.1 e.0 e.1 e.2 in
+    let filter = filter_spelled present e.1 f.0 f.1 f.2 in
+    let same = same_found {E = Refusal} value (make c.0 d.0 e.0 f.0) rest f.1 (Found value rest) refl f.3 in
+    record {
+      marking = c.0;
+      cabac_init_idc = d.0;
+      slice_qp_delta = e.0;
+      filter = f.0;
+      is = same.0;
+      marking_fits = marking.0;
+      idc_fits = idc.0;
+      delta_fits = qp.0;
+      qp_fits = qp.1;
+      filter_fits = filter.0;
+      text = begins_then marking.1 (begins_then idc.1 (begins_then qp.2 (begins_last (subst (λ t. Begins (deblocking_text present f.0) e.1 t) (sym same.1) filter.1))));
+    }
+
 after_spelled : (nal : ℕ) (start : Start) (bits : List Bool) (h : Header) (rest : List Bool) → Spells (after_start nal start) bits (Found h rest) → AfterFound nal start bits h rest
-unfolding after_start
+unfolding after_start last_parts
 after_spelled nal start bits h rest s =
     let active = start.active in
-    let init = has_init active.pps start.slice_type in
-    let present = active.pps.deblocking_filter_control_present_flag in
     let a = found_then (picture_number active.sps nal) _ bits h rest s in
     let b = found_then (picture_order active a.0.field_pic_flag) _ a.1 h rest a.3 in
-    let c = found_then (dec_ref_pic_marking nal) _ b.1 h rest b.3 in
-    let d = found_then (element_when init (Ue 2) 0) _ c.1 h rest c.3 in
-    let e = found_then (slice_qp active.pps) _ d.1 h rest d.3 in
-    let f = found_then (deblocking present) _ e.1 h rest e.3 in
+    let r = found_then (active_references active.pps start.slice_type a.0.field_pic_flag) _ b.1 h rest b.3 in
+    let l = found_then (reference_lists active.pps start.slice_type r.0) _ r.1 h rest r.3 in
+    let others = last_spelled nal start (whole nal start a.0 b.0 r.0 l.0) l.1 h rest l.3 in
     let picture = picture_spelled active.sps nal bits a.0 a.1 a.2 in
     let order = order_spelled active a.0.field_pic_flag a.1 b.0 b.1 b.2 in
-    let marking = marking_spelled nal b.1 c.0 c.1 c.2 in
-    let idc = when_spelled init (Ue 2) 0 c.1 d.0 d.1 d.2 in
-    let qp = qp_spelled active.pps d.1 e.0 e.1 e.2 in
-    let filter = filter_spelled present e.1 f.0 f.1 f.2 in
-    let same = same_found h _ rest _ (Found h rest) refl f.3 in
-    done _ _ same.0 same.1 (record {
+    let references = references_spelled active.pps start.slice_type a.0.field_pic_flag b.1 r.0 r.1 r.2 in
+    let lists = lists_spelled active.pps start.slice_type r.0 r.1 l.0 l.1 l.2 in
+    subst (λ (g : Header). AfterFound nal start bits g rest) (sym others.is) (record {
       nal_is = refl;
       first_is = refl;
       type_is = refl;
       number_is = refl;
       picture = picture.0;
       order = order.0;
-      marking = marking.0;
-      cabac_init_idc = idc.0;
-      slice_qp_delta = qp.0;
-      slice_qp = qp.1;
-      filter = filter.0;
-      text = begins_then picture.1 (begins_then order.1 (begins_then marking.1 (begins_then idc.1 (begins_then qp.2 (begins_last filter.1)))));
+      references = references.0;
+      lists = lists.0;
+      marking = others.marking_fits;
+      cabac_init_idc = others.idc_fits;
+      slice_qp_delta = others.delta_fits;
+      slice_qp = others.qp_fits;
+      filter = others.filter_fits;
+      text = begins_then picture.1 (begins_then order.1 (begins_then references.1 (begins_then lists.1 others.text)));
     })
-  where
-    done : (found : Header) (tail : List Bool) → h ≡ found → rest ≡ tail → AfterFound nal start bits found tail → AfterFound nal start bits h rest
-    done found tail e k so = rw (e, k) so
 
 abbrev start_of : Active → Header → Start
 start_of active h = record { first_mb_in_slice = h.first_mb_in_slice; slice_type = h.slice_type; pic_parameter_set_id = h.pic_parameter_set_id; active = active }
@@ -179,50 +278,47 @@ unfolding after_start
 after_again active h rest fits =
     let init = has_init active.pps h.slice_type in
     let present = active.pps.deblocking_filter_control_present_flag in
-    let t6 : List Bool = deblocking_text present (filter_of h) ++ [] in
-    let t5 : List Bool = se h.slice_qp_delta ++ t6 in
-    let t4 : List Bool = code_when init (Ue 2) h.cabac_init_idc ++ t5 in
-    let t3 : List Bool = marking_text h.nal (marking_of h) ++ t4 in
+    let t8 : List Bool = deblocking_text present (filter_of h) ++ [] in
+    let t7 : List Bool = se h.slice_qp_delta ++ t8 in
+    let t6 : List Bool = code_when init (Ue 2) h.cabac_init_idc ++ t7 in
+    let t5 : List Bool = marking_text h.nal (marking_of h) ++ t6 in
+    let t4 : List Bool = lists_text h.slice_type (lists_of h) ++ t5 in
+    let t3 : List Bool = references_text h.slice_type (references_of h) ++ t4 in
     let t2 : List Bool = order_text active h.field_pic_flag (order_of h) ++ t3 in
     read_then (picture_number active.sps h.nal) _ (picture_of h) (picture_text active.sps h.nal (picture_of h)) t2 rest _ (picture_again active.sps h.nal (picture_of h) (t2 ++ rest) fits.picture)
     (read_then (picture_order active h.field_pic_flag) _ (order_of h) (order_text active h.field_pic_flag (order_of h)) t3 rest _ (order_again active h.field_pic_flag (order_of h) (t3 ++ rest) fits.order)
-    (read_then (dec_ref_pic_marking h.nal) _ (marking_of h) (marking_text h.nal (marking_of h)) t4 rest _ (marking_again h.nal (marking_of h) (t4 ++ rest) fits.marking)
-    (read_then (element_when init (Ue 2) 0) _ h.cabac_init_idc (code_when init (Ue 2) h.cabac_init_idc) t5 rest _ (when_again init (Ue 2) 0 h.cabac_init_idc (t5 ++ rest) fits.cabac_init_idc)
-    (read_then (slice_qp active.pps) _ h.slice_qp_delta (se h.slice_qp_delta) t6 rest _ (qp_again active.pps h.slice_qp_delta (t6 ++ rest) fits.slice_qp_delta fits.slice_qp)
-    (read_then (deblocking present) _ (filter_of h) (deblocking_text present (filter_of h)) [] rest _ (filter_again present (filter_of h) rest fits.filter) (done_again h rest))))))
+    (read_then (active_references active.pps h.slice_type h.field_pic_flag) _ (references_of h) (references_text h.slice_type (references_of h)) t4 rest _ (references_again active.pps h.slice_type h.field_pic_flag (references_of h) (t4 ++ rest) fits.references)
+    (read_then (reference_lists active.pps h.slice_type (references_of h)) _ (lists_of h) (lists_text h.slice_type (lists_of h)) t5 rest _ (lists_again active.pps h.slice_type (references_of h) (lists_of h) (t5 ++ rest) fits.lists)
+    (read_then (dec_ref_pic_marking h.nal) _ (marking_of h) (marking_text h.nal (marking_of h)) t6 rest _ (marking_again h.nal (marking_of h) (t6 ++ rest) fits.marking)
+    (read_then (element_when init (Ue 2) 0) _ h.cabac_init_idc (code_when init (Ue 2) h.cabac_init_idc) t7 rest _ (when_again init (Ue 2) 0 h.cabac_init_idc (t7 ++ rest) fits.cabac_init_idc)
+    (read_then (slice_qp active.pps) _ h.slice_qp_delta (se h.slice_qp_delta) t8 rest _ (qp_again active.pps h.slice_qp_delta (t8 ++ rest) fits.slice_qp_delta fits.slice_qp)
+    (read_then (deblocking present) _ (filter_of h) (deblocking_text present (filter_of h)) [] rest _ (filter_again present (filter_of h) rest fits.filter) (done_again h rest))))))))
 
 -- ---- the header
 
 pub record IsFound (sets : SetMaps) (nal : ℕ) (h : Header) (bits rest : List Bool) (active : Active) : Type 0 where
   pub names : Names sets h.pic_parameter_set_id active
-  pub allowed : IsAllowed h.slice_type active
+  pub allowed : IsAllowed active
   pub fits : HeaderFits active h
   pub nal_is : h.nal ≡ nal
   pub text : bits ≡ header_text active h ++ rest
 
-is_built_i : (a b c d : Bool) → (a && b && c && d) ≡ true → a ≡ true
-is_built_i true b c d h = refl
-is_built_i false b c d h = absurd cc
-
-not_not : (b : Bool) → not b ≡ false → b ≡ true
-not_not true h = refl
-not_not false h = absurd cc
-
-found_parts : (sets : SetMaps) (nal : ℕ) (bits mid : List Bool) (start : Start) (h : Header) (rest : List Bool) → StartFound sets bits start mid → is_built start.slice_type start.active ≡ true → AfterFound nal start mid h rest
+found_parts : (sets : SetMaps) (nal : ℕ) (bits mid : List Bool) (start : Start) (h : Header) (rest : List Bool) → StartFound sets bits start mid → AfterFound nal start mid h rest
     → IsFound sets nal h bits rest start.active
 unfolding header_text
-found_parts sets nal bits mid start h rest s built a =
-    let i : is_i start.slice_type ≡ true = is_built_i (is_i start.slice_type) start.active.sps.frame_mbs_only_flag (not start.active.pps.entropy_coding_mode_flag) (not start.active.pps.transform_8x8_mode_flag) built in
+found_parts sets nal bits mid start h rest s a =
     record {
       names = subst (λ n. Names sets n start.active) (sym a.number_is) s.active.names;
-      allowed = record { in_profile = s.active.in_profile; built = subst (λ n. is_built n start.active ≡ true) (sym a.type_is) built };
+      allowed = s.active.in_profile;
       fits = record {
         first_mb_in_slice = subst (λ n. n ≤ 139263) (sym a.first_is) s.first_mb_in_slice;
         slice_type = subst (λ n. n ≤ 9) (sym a.type_is) s.slice_type;
-        i_slice = subst (λ n. is_i n ≡ true) (sym a.type_is) i;
+        in_scope = subst (λ n. is_switching n ≡ false) (sym a.type_is) s.in_scope;
         pic_parameter_set_id = subst (λ n. n ≤ 255) (sym a.number_is) s.pic_parameter_set_id;
         picture = a.picture;
         order = a.order;
+        references = a.references;
+        lists = a.lists;
         marking = a.marking;
         cabac_init_idc = a.cabac_init_idc;
         slice_qp_delta = a.slice_qp_delta;
@@ -240,20 +336,17 @@ pub header_spelled : (sets : SetMaps) (nal : ℕ) (h : Header) (bits rest : List
 unfolding slice_header
 header_spelled sets nal h bits rest s =
     let a = found_then (slice_start sets) _ bits h rest s in
-    let built = found_allowed {E = Refusal} {A = Header} (not (is_built a.0.slice_type a.0.active)) NotBuilt _ a.1 h rest a.3 in
-    (a.0.active, found_parts sets nal bits a.1 a.0 h rest (start_spelled sets bits a.0 a.1 a.2) (not_not (is_built a.0.slice_type a.0.active) built.0) (after_spelled nal a.0 a.1 h rest built.1))
+    (a.0.active, found_parts sets nal bits a.1 a.0 h rest (start_spelled sets bits a.0 a.1 a.2) (after_spelled nal a.0 a.1 h rest a.3))
 
-pub header_again : (sets : SetMaps) (active : Active) (h : Header) (rest : List Bool) → Names sets h.pic_parameter_set_id active → IsAllowed h.slice_type active → HeaderFits active h
+pub header_again : (sets : SetMaps) (active : Active) (h : Header) (rest : List Bool) → Names sets h.pic_parameter_set_id active → IsAllowed active → HeaderFits active h
     → HeaderText sets h.nal h (header_text active h ++ rest) rest
 unfolding slice_header header_text
 header_again sets active h rest names allowed fits =
-    let are : AreActive sets h.pic_parameter_set_id active = record { names = names; in_profile = allowed.in_profile } in
-    let built : not (is_built h.slice_type active) ≡ false = ap not allowed.built in
-    let next : Start → Syntax Refusal Header = λ start. refused_where (not (is_built start.slice_type start.active)) NotBuilt >>= (λ built. after_start h.nal start) in
+    let are : AreActive sets h.pic_parameter_set_id active = record { names = names; in_profile = allowed } in
     let read : outcome_of (slice_header sets h.nal) (header_text active h ++ rest) ≡ Found h rest =
-    read_then (slice_start sets) next (start_of active h) (start_text h) (after_text active h) rest _
-    (start_again sets (start_of active h) (after_text active h ++ rest) fits.first_mb_in_slice fits.slice_type fits.pic_parameter_set_id fits.i_slice are)
-    (not_refused _ _ _ _ built ∙ after_again active h rest fits) in
+    read_then (slice_start sets) (after_start h.nal) (start_of active h) (start_text h) (after_text active h) rest _
+    (start_again sets (start_of active h) (after_text active h ++ rest) fits.first_mb_in_slice fits.slice_type fits.pic_parameter_set_id fits.in_scope are)
+    (after_again active h rest fits) in
     spelled (slice_header sets h.nal) (header_text active h ++ rest) (Found h rest) read (λ k. cc)
 
 -- ---- what a reader answers
@@ -264,7 +357,6 @@ reads sets nal (Err NoReading) bits rest k = nothing_spelled (slice_header sets 
 reads sets nal (Err (MissingPps number)) bits rest k = spelled (slice_header sets nal) bits _ k (λ e. cc)
 reads sets nal (Err (MissingSps number)) bits rest k = spelled (slice_header sets nal) bits _ k (λ e. cc)
 reads sets nal (Err Profile) bits rest k = spelled (slice_header sets nal) bits _ k (λ e. cc)
-reads sets nal (Err Unbuilt) bits rest k = spelled (slice_header sets nal) bits _ k (λ e. cc)
 reads sets nal (Err Memory) bits rest k = tt
 
 pub in_range : (sets : SetMaps) (nal : ℕ) (result : Result Header HeaderFault) (bits rest : List Bool) → Answers header_says (λ x. x) result rest (outcome_of (slice_header sets nal) bits) → IfOk result (λ h. IsUnder sets h × (h.nal ≡ nal))

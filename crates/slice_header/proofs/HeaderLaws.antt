@@ -1,5 +1,5 @@
 -- The laws of the texts of headers, and of shapes.
-use Rattle.std.proofs.Common.{◌≡◌, ℕ, ℤ, pos, negsuc, ◌+◌, ◌*◌, ◌/◌, ◌%◌, ◌<◌, ◌≤◌, Bool, true, false, cond, ltb, eqb, List, ◌++◌, unsigned_abs, refl, sym, ◌∙◌, inl, inr, arith}
+use Rattle.std.proofs.Common.{◌≡◌, ℕ, ℤ, pos, negsuc, ◌+◌, ◌*◌, ◌/◌, ◌%◌, ◌<◌, ◌≤◌, Bool, true, false, cond, leb, ltb, eqb, List, ◌++◌, unsigned_abs, refl, sym, ◌∙◌, inl, inr, arith}
 use Rattle.std.specs.Prelude.{◌||◌, ◌&&◌, not, ◌⊎◌}
 use Rattle.std.proofs.Math.Nat.{mul-le-mul_left}
 use Rattle.std.proofs.lemmas.Bool.{eqb-true}
@@ -17,12 +17,17 @@ use Rattle.param_sets.specs.PpsCodes.{mode_flag_of}
 use Rattle.param_sets.specs.SequenceParameterSet.{width_of, height_of}
 use Rattle.param_sets.specs.Sets.{SetMaps}
 use Rattle.param_sets.specs.SpsCodes.{IsSps}
-use Rattle.slice_header.specs.Refusal.{Refusal}
-use Rattle.slice_header.specs.When.{IsInWhen}
+use Rattle.header_parts.specs.ActiveSets.{Active}
+use Rattle.header_parts.specs.PartsOf.{references_of}
+use Rattle.header_parts.specs.QuantisationAndFilter.{is_qp, slice_qp_y}
+use Rattle.header_parts.specs.References.{active_l0, active_l1, most_active}
+use Rattle.header_parts.specs.Refusal.{Refusal}
+use Rattle.header_parts.specs.SliceTypes.{is_i}
+use Rattle.header_parts.specs.When.{IsInWhen}
+use Rattle.header_parts.specs.declared.header.Header.{Header}
 use Rattle.slice_header.specs.Shape.{shape_of}
-use Rattle.slice_header.specs.SliceHeader.{Active, slice_header, is_i, is_qp, slice_qp_y, has_init}
+use Rattle.slice_header.specs.SliceHeader.{slice_header, has_init}
 use Rattle.slice_header.specs.HeaderCodes.{HeaderFits, HeaderText, IsAllowed, IsRefusedHeader, Names, active_in, header_in, header_text, unconstrained}
-use Rattle.slice_header.specs.declared.header.Header.{Header}
 use Rattle.slice_header.proofs.HeaderFound.{header_spelled}
 
 pub one_header : (sets : SetMaps) (nal : ℕ) (bits rest after : List Bool) (first second : Header) → HeaderText sets nal first bits rest → HeaderText sets nal second bits after → (first ≡ second) × (rest ≡ after)
@@ -32,7 +37,7 @@ pub refused_header : (sets : SetMaps) (nal : ℕ) (bits rest : List Bool) (cause
 refused_header sets nal bits rest cause h refused text = let same = one_outcome (slice_header sets nal) bits _ _ refused text in cc
 
 pub written_one : (sets : SetMaps) (nal : ℕ) (bits rest : List Bool) (h : Header) → HeaderText sets nal h bits rest
-    → (active : Active) × Names sets h.pic_parameter_set_id active × IsAllowed h.slice_type active × HeaderFits active h × (h.nal ≡ nal) × (bits ≡ header_text active h ++ rest)
+    → (active : Active) × Names sets h.pic_parameter_set_id active × IsAllowed active × HeaderFits active h × (h.nal ≡ nal) × (bits ≡ header_text active h ++ rest)
 written_one sets nal bits rest h text =
     let f = header_spelled sets nal h bits rest text in
     (f.0, f.1.names, f.1.allowed, f.1.fits, f.1.nal_is, f.1.text)
@@ -46,7 +51,7 @@ moved active h layer number idc small few fits =
     record {
       first_mb_in_slice = fits.first_mb_in_slice;
       slice_type = fits.slice_type;
-      i_slice = fits.i_slice;
+      in_scope = fits.in_scope;
       pic_parameter_set_id = omega (arith, small);
       picture = fits.picture;
       order = record {
@@ -54,6 +59,18 @@ moved active h layer number idc small few fits =
         delta_pic_order_cnt_bottom = fits.order.delta_pic_order_cnt_bottom;
         count = fits.order.count;
         delta_pic_order_cnt = fits.order.delta_pic_order_cnt;
+      };
+      references = record {
+        direct_spatial_mv_pred_flag = fits.references.direct_spatial_mv_pred_flag;
+        num_ref_idx_active_override_flag = fits.references.num_ref_idx_active_override_flag;
+        num_ref_idx_l0_active_minus1 = fits.references.num_ref_idx_l0_active_minus1;
+        num_ref_idx_l1_active_minus1 = fits.references.num_ref_idx_l1_active_minus1;
+        few = fits.references.few;
+      };
+      lists = record {
+        modification_l0 = fits.lists.modification_l0;
+        modification_l1 = fits.lists.modification_l1;
+        pred_weight_table = fits.lists.pred_weight_table;
       };
       marking = fits.marking;
       cabac_init_idc = chosen_in (mode_flag_of layer && not (is_i h.slice_type)) idc few;
@@ -67,7 +84,7 @@ in_range_unconstrained active h fits =
     record {
       first_mb_in_slice = fits.first_mb_in_slice;
       slice_type = fits.slice_type;
-      i_slice = fits.i_slice;
+      in_scope = fits.in_scope;
       pic_parameter_set_id = fits.pic_parameter_set_id;
       picture = record { frame_num = fits.picture.frame_num; field_pic_flag = fits.picture.field_pic_flag; bottom_field_flag = fits.picture.bottom_field_flag; idr_pic_id = fits.picture.idr_pic_id };
       order = record {
@@ -76,6 +93,8 @@ in_range_unconstrained active h fits =
         count = fits.order.count;
         delta_pic_order_cnt = fits.order.delta_pic_order_cnt;
       };
+      references = fits.references;
+      lists = fits.lists;
       marking = fits.marking;
       cabac_init_idc = fits.cabac_init_idc;
       slice_qp_delta = fits.slice_qp_delta;
@@ -145,3 +164,14 @@ shape_fits active h sps fits =
       qp = qp_most (slice_qp_y active.pps h.slice_qp_delta) fits.slice_qp;
       column = column_most (has_init active.pps h.slice_type) (is_i h.slice_type) h.cabac_init_idc fits.cabac_init_idc;
     }
+
+-- ---- active references
+
+few_most : (field : Bool) (n : ℕ) → leb n (most_active field) ≡ true → n ≤ 32
+few_most true n h = grind (arith, nat_tests)
+few_most false n h = let most : n ≤ 16 = grind (arith, nat_tests) in omega (arith, most)
+
+pub references_fit : (active : Active) (h : Header) → HeaderFits active h → (active_l0 active.pps h.slice_type (references_of h) ≤ 32) × (active_l1 active.pps h.slice_type (references_of h) ≤ 32)
+references_fit active h fits =
+    let few = both (leb (active_l0 active.pps h.slice_type (references_of h)) (most_active h.field_pic_flag)) (leb (active_l1 active.pps h.slice_type (references_of h)) (most_active h.field_pic_flag)) fits.references.few in
+    (few_most h.field_pic_flag _ few.0, few_most h.field_pic_flag _ few.1)

@@ -1,79 +1,38 @@
 -- The codes of a slice header in their order, and the ranges of its elements (ITU-T H.264, 7.3.3 and 7.4.3).
-use Rattle.std.specs.Prelude.{◌≡◌, ℕ, ℤ, pos, negsuc, ◌+◌, ◌≤◌, ◌<◌, ◌^◌, ◌==◌, Bool, true, false, not, ◌&&◌, List, [], ◌∷◌, length, Some, Result, Ok, Err, if◌then◌else◌}
-use Rattle.std.specs.List.{flat_map, AllByRecursion}
-use Rattle.bit_texts.specs.Bits.{binary}
-use Rattle.exp_golomb.specs.Code.{Flag, U, Ue, Se, IsIn, ue, se}
+use Rattle.std.specs.Prelude.{◌≡◌, ℕ, ◌≤◌, Bool, true, false, not, ◌&&◌, List, [], ◌∷◌, Some, Result, Ok, Err, if◌then◌else◌}
+use Rattle.exp_golomb.specs.Code.{Ue, ue, se}
 use Rattle.exp_golomb.specs.Syntax.{Outcome, Found, Refused, Spells, joined}
 use Rattle.h264_types.specs.declared.layer.Layer.{Layer}
+use Rattle.header_parts.specs.ActiveSets.{Active}
+use Rattle.header_parts.specs.PartsOf.{picture_of, order_of, references_of, lists_of, marking_of, filter_of}
+use Rattle.header_parts.specs.Picture.{picture_text, order_text, PictureFits, OrderFits, IsDelta}
+use Rattle.header_parts.specs.QuantisationAndFilter.{slice_qp_y, is_qp, deblocking_text, DeblockingFits}
+use Rattle.header_parts.specs.ReferenceLists.{lists_text, ListsFit}
+use Rattle.header_parts.specs.References.{references_text, ReferencesFit}
+use Rattle.header_parts.specs.Refusal.{Refusal, OutsideProfile, NoPps, NoSps}
+use Rattle.header_parts.specs.RefPicMarking.{marking_text, MarkingFits}
+use Rattle.header_parts.specs.SliceTypes.{is_i, is_switching}
+use Rattle.header_parts.specs.When.{code_when, IsInWhen}
+use Rattle.header_parts.specs.declared.fault.HeaderFault.{HeaderFault}
+use Rattle.header_parts.specs.declared.fault.HeaderFault.TheVariants.{NoReading, MissingPps, MissingSps, Profile, Memory}
+use Rattle.header_parts.specs.declared.header.Header.{Header}
 use Rattle.param_sets.specs.PpsCodes.{mode_flag_of, pps_in}
-use Rattle.param_sets.specs.SpsCodes.{without_constraints}
 use Rattle.param_sets.specs.Sets.{SetMaps, find_pps, find_sps}
-use Rattle.param_sets.specs.declared.sps.Sps.{Sps}
-use Rattle.slice_header.specs.NalHeader.{is_idr}
-use Rattle.slice_header.specs.Refusal.{Refusal, OutsideProfile, NoPps, NoSps, NotBuilt}
-use Rattle.slice_header.specs.declared.fault.HeaderFault.{HeaderFault}
-use Rattle.slice_header.specs.declared.fault.HeaderFault.TheVariants.{NoReading, MissingPps, MissingSps, Profile, Unbuilt, Memory}
-use Rattle.slice_header.specs.RefPicMarking.{marking_text, MarkingFits}
-use Rattle.slice_header.specs.SliceHeader.{Active, breaks_main, is_built, is_i, has_bottom, has_offsets, delta_count, slice_qp_y, is_qp, has_init, slice_header}
-use Rattle.slice_header.specs.When.{code_when, IsInWhen}
-use Rattle.slice_header.specs.declared.header.Header.{Header}
-use Rattle.slice_header.specs.declared.parts.PictureNumber.{PictureNumber}
-use Rattle.slice_header.specs.declared.parts.PictureOrder.{PictureOrder}
-use Rattle.slice_header.specs.declared.parts.Marking.{Marking}
-use Rattle.slice_header.specs.declared.parts.Deblocking.{Deblocking}
-
--- ---- parts
-
-abbrev pub picture_of : Header → PictureNumber
-picture_of h = record { frame_num = h.frame_num; field_pic_flag = h.field_pic_flag; bottom_field_flag = h.bottom_field_flag; idr_pic_id = h.idr_pic_id }
-
-abbrev pub order_of : Header → PictureOrder
-order_of h = record { pic_order_cnt_lsb = h.pic_order_cnt_lsb; delta_pic_order_cnt_bottom = h.delta_pic_order_cnt_bottom; delta_pic_order_cnt = h.delta_pic_order_cnt }
-
-abbrev pub marking_of : Header → Marking
-marking_of h =
-    record {
-      no_output_of_prior_pics_flag = h.no_output_of_prior_pics_flag;
-      long_term_reference_flag = h.long_term_reference_flag;
-      adaptive_ref_pic_marking_mode_flag = h.adaptive_ref_pic_marking_mode_flag;
-      operations = h.memory_management_control_operation;
-    }
-
-abbrev pub filter_of : Header → Deblocking
-filter_of h = record { disable_deblocking_filter_idc = h.disable_deblocking_filter_idc; slice_alpha_c0_offset_div2 = h.slice_alpha_c0_offset_div2; slice_beta_offset_div2 = h.slice_beta_offset_div2 }
+use Rattle.param_sets.specs.SpsCodes.{without_constraints}
+use Rattle.slice_header.specs.SliceHeader.{breaks_main, has_init, slice_header}
 
 -- ---- codes
 
 abbrev pub start_text : Header → List Bool
 start_text h = joined (ue h.first_mb_in_slice ∷ ue h.slice_type ∷ ue h.pic_parameter_set_id ∷ [])
 
-abbrev pub picture_text : Sps → ℕ → PictureNumber → List Bool
-picture_text sps nal p = joined (
-    binary (sps.log2_max_frame_num_minus4 + 4) p.frame_num
-    ∷ code_when (not sps.frame_mbs_only_flag) Flag p.field_pic_flag
-    ∷ code_when p.field_pic_flag Flag p.bottom_field_flag
-    ∷ code_when (is_idr nal) (Ue 65535) p.idr_pic_id
-    ∷ [])
-
-abbrev pub order_text : Active → Bool → PictureOrder → List Bool
-order_text active field_pic_flag o = joined (
-    code_when (active.sps.pic_order_cnt_type == 0) (U (active.sps.log2_max_pic_order_cnt_lsb_minus4 + 4)) o.pic_order_cnt_lsb
-    ∷ code_when (has_bottom active field_pic_flag) (Se (negsuc 2147483646) (pos 2147483647)) o.delta_pic_order_cnt_bottom
-    ∷ flat_map se o.delta_pic_order_cnt
-    ∷ [])
-
-abbrev pub deblocking_text : Bool → Deblocking → List Bool
-deblocking_text present d = joined (
-    code_when present (Ue 2) d.disable_deblocking_filter_idc
-    ∷ code_when (has_offsets present d.disable_deblocking_filter_idc) (Se (negsuc 5) (pos 6)) d.slice_alpha_c0_offset_div2
-    ∷ code_when (has_offsets present d.disable_deblocking_filter_idc) (Se (negsuc 5) (pos 6)) d.slice_beta_offset_div2
-    ∷ [])
-
 unfoldable pub header_text : Active → Header → List Bool
 header_text active h = joined (
     start_text h
     ∷ picture_text active.sps h.nal (picture_of h)
     ∷ order_text active h.field_pic_flag (order_of h)
+    ∷ references_text h.slice_type (references_of h)
+    ∷ lists_text h.slice_type (lists_of h)
     ∷ marking_text h.nal (marking_of h)
     ∷ code_when (has_init active.pps h.slice_type) (Ue 2) h.cabac_init_idc
     ∷ se h.slice_qp_delta
@@ -82,39 +41,19 @@ header_text active h = joined (
 
 -- ---- ranges
 
--- What 7.4.3 asks of one header beside others, or of the picture, isn't judged here: first_mb_in_slice within the
--- picture, frame_num 0 in an IDR picture, and the bounds of the operands of reference marking.
-
-pub record PictureFits (sps : Sps) (nal : ℕ) (p : PictureNumber) : Type 0 where
-  pub frame_num : p.frame_num < 2 ^ (sps.log2_max_frame_num_minus4 + 4)
-  pub field_pic_flag : IsInWhen (not sps.frame_mbs_only_flag) Flag false p.field_pic_flag
-  pub bottom_field_flag : IsInWhen p.field_pic_flag Flag false p.bottom_field_flag
-  pub idr_pic_id : IsInWhen (is_idr nal) (Ue 65535) 0 p.idr_pic_id
-
--- the range of se(v)
-abbrev pub IsDelta : ℤ → Type 0
-IsDelta delta = IsIn (Se (negsuc 2147483646) (pos 2147483647)) delta
-
-pub record OrderFits (active : Active) (field_pic_flag : Bool) (o : PictureOrder) : Type 0 where
-  pub pic_order_cnt_lsb : IsInWhen (active.sps.pic_order_cnt_type == 0) (U (active.sps.log2_max_pic_order_cnt_lsb_minus4 + 4)) 0 o.pic_order_cnt_lsb
-  pub delta_pic_order_cnt_bottom :
-      IsInWhen (has_bottom active field_pic_flag) (Se (negsuc 2147483646) (pos 2147483647)) (pos 0) o.delta_pic_order_cnt_bottom
-  pub count : length o.delta_pic_order_cnt ≡ delta_count active field_pic_flag
-  pub delta_pic_order_cnt : AllByRecursion IsDelta o.delta_pic_order_cnt
-
-pub record DeblockingFits (present : Bool) (d : Deblocking) : Type 0 where
-  pub disable_deblocking_filter_idc : IsInWhen present (Ue 2) 0 d.disable_deblocking_filter_idc
-  pub slice_alpha_c0_offset_div2 : IsInWhen (has_offsets present d.disable_deblocking_filter_idc) (Se (negsuc 5) (pos 6)) (pos 0) d.slice_alpha_c0_offset_div2
-  pub slice_beta_offset_div2 : IsInWhen (has_offsets present d.disable_deblocking_filter_idc) (Se (negsuc 5) (pos 6)) (pos 0) d.slice_beta_offset_div2
-
--- the elements of an I slice are in range under these sets, and those that are absent are 0, false or empty
+-- The elements are in range under these sets, and those that are absent are 0, false, None or empty. What 7.4.1 and 7.4.3
+-- ask of a header beyond that isn't judged here: first_mb_in_slice within the picture; of an IDR picture that frame_num is 0,
+-- that its slices are I slices and that nal_ref_idc isn't 0; and the bounds of the operands of reference marking and of the
+-- modifications of lists.
 pub record HeaderFits (active : Active) (h : Header) : Type 0 where
   pub first_mb_in_slice : h.first_mb_in_slice ≤ 139263
   pub slice_type : h.slice_type ≤ 9
-  pub i_slice : is_i h.slice_type ≡ true
+  pub in_scope : is_switching h.slice_type ≡ false
   pub pic_parameter_set_id : h.pic_parameter_set_id ≤ 255
   pub picture : PictureFits active.sps h.nal (picture_of h)
   pub order : OrderFits active h.field_pic_flag (order_of h)
+  pub references : ReferencesFit active.pps h.slice_type h.field_pic_flag (references_of h)
+  pub lists : ListsFit active.pps h.slice_type (references_of h) (lists_of h)
   pub marking : MarkingFits h.nal (marking_of h)
   pub cabac_init_idc : IsInWhen (has_init active.pps h.slice_type) (Ue 2) 0 h.cabac_init_idc
   pub slice_qp_delta : IsDelta h.slice_qp_delta
@@ -132,10 +71,9 @@ pub record Names (sets : SetMaps) (pic_parameter_set_id : ℕ) (active : Active)
 abbrev pub IsUnder : SetMaps → Header → Type 0
 IsUnder sets h = (active : Active) × Names sets h.pic_parameter_set_id active × HeaderFits active h
 
--- they are allowed to a slice of this type: blocks of 8x8 aren't used under Main, and slices of this form are read
-pub record IsAllowed (slice_type : ℕ) (active : Active) : Type 0 where
-  pub in_profile : breaks_main active ≡ false
-  pub built : is_built slice_type active ≡ true
+-- they are allowed: blocks of 8x8 aren't used under Main
+abbrev pub IsAllowed : Active → Type 0
+IsAllowed active = breaks_main active ≡ false
 
 -- the bits begin with the text of this header, and these follow
 abbrev pub HeaderText : SetMaps → ℕ → Header → List Bool → List Bool → Type 0
@@ -153,7 +91,6 @@ ReadsHeader sets nal (Err NoReading) bits rest = (outcome : Outcome Refusal Head
 ReadsHeader sets nal (Err (MissingPps number)) bits rest = IsRefusedHeader sets nal (NoPps number) bits
 ReadsHeader sets nal (Err (MissingSps number)) bits rest = IsRefusedHeader sets nal (NoSps number) bits
 ReadsHeader sets nal (Err Profile) bits rest = IsRefusedHeader sets nal OutsideProfile bits
-ReadsHeader sets nal (Err Unbuilt) bits rest = IsRefusedHeader sets nal NotBuilt bits
 ReadsHeader sets nal (Err Memory) bits rest = Unit {0}
 
 -- ---- the same header and sets for another layer, under another number, with another table of initial states

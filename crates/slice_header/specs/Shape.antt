@@ -1,15 +1,19 @@
 -- What the macroblocks of a slice rest on beside one another (ITU-T H.264, 7.4.2.1.1, 7.4.3 and 9.3.1.1).
-use Rattle.std.specs.Prelude.{ℕ, ◌+◌, ◌*◌, ◌/◌, ◌%◌, ◌==◌, Bool, not, ◌&&◌, [], ◌∷◌, unsigned_abs, if◌then◌else◌}
+use Rattle.std.specs.Prelude.{ℕ, ◌+◌, ◌*◌, ◌/◌, Bool, not, ◌&&◌, [], ◌∷◌, unsigned_abs, if◌then◌else◌}
 use Rattle.h264_types.specs.declared.slice_shape.SliceKind.{SliceKind}
 use Rattle.h264_types.specs.declared.slice_shape.SliceKind.TheVariants.{I, P, B}
 use Rattle.h264_types.specs.declared.slice_shape.SliceShape.{SliceShape}
 use Rattle.param_sets.specs.SequenceParameterSet.{width_of, height_of}
-use Rattle.slice_header.specs.SliceHeader.{Active, is_i, slice_qp_y}
-use Rattle.slice_header.specs.declared.header.Header.{Header}
+use Rattle.header_parts.specs.ActiveSets.{Active}
+use Rattle.header_parts.specs.PartsOf.{references_of}
+use Rattle.header_parts.specs.QuantisationAndFilter.{slice_qp_y}
+use Rattle.header_parts.specs.References.{active_l0, active_l1}
+use Rattle.header_parts.specs.SliceTypes.{is_i, is_p}
+use Rattle.header_parts.specs.declared.header.Header.{Header}
 
 -- Table 7-6, without SP and SI
 abbrev pub kind_of : ℕ → SliceKind
-kind_of slice_type = if slice_type % 5 == 2 then I else if slice_type % 5 == 0 then P else B
+kind_of slice_type = if is_i slice_type then I else if is_p slice_type then P else B
 
 -- MbaffFrameFlag
 abbrev pub is_mbaff : Active → Header → Bool
@@ -37,7 +41,7 @@ shape_of active h =
       first = first_address active h;
       mbaff = is_mbaff active h;
       field_pic = h.field_pic_flag;
-      refs = 0 ∷ 0 ∷ [];
+      refs = active_l0 active.pps h.slice_type (references_of h) ∷ active_l1 active.pps h.slice_type (references_of h) ∷ [];
       t8_mode = active.pps.transform_8x8_mode_flag;
       direct8 = active.sps.direct_8x8_inference_flag;
       profile = active.sps.profile_idc;

@@ -3,43 +3,26 @@ ghost use Rattle.exp_golomb.specs.Syntax.{outcome_of, Answers};
 ghost use Rattle.param_sets.specs.PpsCodes.{IsPps};
 ghost use Rattle.param_sets.specs.SpsCodes.{IsSps};
 ghost use Rattle.slice_header.specs.HeaderCodes.{IsUnder, ReadsHeader};
-ghost use Rattle.slice_header.specs.Refusal.{header_says};
-ghost use Rattle.slice_header.specs.SliceHeader.{is_i, is_built, has_init, after_start, slice_header};
-ghost use Rattle.slice_header.specs.Views.{active_view, start_view};
+ghost use Rattle.header_parts.specs.Refusal.{header_says};
+ghost use Rattle.slice_header.specs.SliceHeader.{has_init, after_start, slice_header};
+ghost use Rattle.slice_header.specs.Views.{start_view};
 
-use crate::active_sets::SliceStart;
-use crate::fault::HeaderFault;
-use crate::header::Header;
-use crate::read_element::ue_when;
-use crate::read_marking::read_marking;
-use crate::read_parts::{read_deblocking, read_picture_number, read_picture_order, read_slice_qp};
 use crate::read_start_text::read_start;
+use crate::slice_start::SliceStart;
 use exp_golomb::BitSource;
+use header_parts::read_element::ue_when;
+use header_parts::{
+    Header, HeaderFault, is_i_slice, read_active_references, read_deblocking, read_marking,
+    read_picture_number, read_picture_order, read_reference_lists, read_slice_qp,
+};
 use param_sets::{Pps, Sets};
 use std::alloc::Global;
-
-/// Whether a slice type is I (Table 7-6).
-pub fn is_i_slice(slice_type: u32) -> bool
-    ensures { result ≡ is_i slice_type }
-{
-    slice_type % 5 == 2
-}
 
 /// Whether cabac_init_idc stands.
 pub fn has_cabac_init(pps: &Pps, slice_type: u32) -> bool
     ensures { result ≡ has_init pps.now slice_type }
 {
     pps.entropy_coding_mode_flag && !is_i_slice(slice_type)
-}
-
-/// Whether slices of this form are read.
-fn is_built_start(start: &SliceStart<'_>) -> bool
-    ensures { result ≡ is_built start.now.slice_type (active_view start.now.active) }
-{
-    is_i_slice(start.slice_type)
-        && start.active.sps.frame_mbs_only_flag
-        && !start.active.pps.entropy_coding_mode_flag
-        && !start.active.pps.transform_8x8_mode_flag
 }
 
 /// What follows the start.
@@ -57,6 +40,13 @@ fn read_after_start<B: BitSource>(
     let active = &start.active;
     let picture = read_picture_number(bits, active.sps, nal)?;
     let order = read_picture_order(alloc, bits, active, picture.field_pic_flag)?;
+    let references = read_active_references(
+        bits,
+        active.pps,
+        start.slice_type,
+        picture.field_pic_flag,
+    )?;
+    let lists = read_reference_lists(alloc, bits, active.pps, start.slice_type, references)?;
     let marking = read_marking(alloc, bits, nal)?;
     let has_init = has_cabac_init(active.pps, start.slice_type);
     let cabac_init_idc = ue_when(bits, has_init, 2)?;
@@ -74,6 +64,13 @@ fn read_after_start<B: BitSource>(
         pic_order_cnt_lsb: order.pic_order_cnt_lsb,
         delta_pic_order_cnt_bottom: order.delta_pic_order_cnt_bottom,
         delta_pic_order_cnt: order.delta_pic_order_cnt,
+        direct_spatial_mv_pred_flag: references.direct_spatial_mv_pred_flag,
+        num_ref_idx_active_override_flag: references.num_ref_idx_active_override_flag,
+        num_ref_idx_l0_active_minus1: references.num_ref_idx_l0_active_minus1,
+        num_ref_idx_l1_active_minus1: references.num_ref_idx_l1_active_minus1,
+        modification_l0: lists.modification_l0,
+        modification_l1: lists.modification_l1,
+        pred_weight_table: lists.pred_weight_table,
         no_output_of_prior_pics_flag: marking.no_output_of_prior_pics_flag,
         long_term_reference_flag: marking.long_term_reference_flag,
         adaptive_ref_pic_marking_mode_flag: marking.adaptive_ref_pic_marking_mode_flag,
@@ -97,16 +94,13 @@ fn read_whole<B: BitSource>(
     ensures kept { B.taken bits.new ++ B.left bits.new ≡ B.taken bits.old ++ B.left bits.old }
 {
     let start = read_start(sets, bits)?;
-    if !is_built_start(&start) {
-        return Err(HeaderFault::Unbuilt);
-    }
     read_after_start(alloc, header, &start, bits)
 }
 
-/// The slice header (7.3.3) of a unit with this header byte, under the sets that stand; just its text is taken. What
-/// `read_start` refuses is refused as it says; then slices other than I slices of frames in CAVLC whose
-/// transform_8x8_mode_flag is 0 are `Unbuilt`, before frame_num; and a text of no header is `NoReading`, at the element
-/// where it stops being one.
+/// The slice header (7.3.3) of a unit with this header byte, under the sets that stand; just its text is taken. A slice
+/// type of SP or SI is `Profile`, before a set is looked for. Then sets that don't stand are `MissingPps` and
+/// `MissingSps` with their number, and a transform of 8x8 blocks under Main is `Profile`, before frame_num. A text of no
+/// header is `NoReading`, at the element where it stops being one.
 pub fn read_header<B: BitSource>(
     alloc: Global,
     sets: &Sets,

@@ -2,14 +2,16 @@ ghost use Rattle.std.specs.Prelude.{◌≡◌, ◌≢◌, List, Bool, IfErr, IfO
 ghost use Rattle.exp_golomb.specs.Syntax.{outcome_of, Answers};
 ghost use Rattle.param_sets.specs.PpsCodes.{IsPps};
 ghost use Rattle.param_sets.specs.SpsCodes.{IsSps};
-ghost use Rattle.slice_header.specs.Refusal.{header_says};
-ghost use Rattle.slice_header.specs.SliceHeader.{active_sets, slice_start, is_switching, breaks_main};
-ghost use Rattle.slice_header.specs.Views.{active_view, start_view};
+ghost use Rattle.header_parts.specs.Refusal.{header_says};
+ghost use Rattle.slice_header.specs.SliceHeader.{active_sets, slice_start, breaks_main};
+ghost use Rattle.header_parts.specs.ActiveSets.{active_view};
+ghost use Rattle.header_parts.specs.SliceTypes.{is_switching};
+ghost use Rattle.slice_header.specs.Views.{start_view};
 
-use crate::active_sets::{ActiveSets, SliceStart};
-use crate::fault::HeaderFault;
-use crate::read_element::{number, ue};
+use crate::slice_start::SliceStart;
 use exp_golomb::BitSource;
+use header_parts::read_element::{number, ue};
+use header_parts::{ActiveSets, HeaderFault};
 use param_sets::{Pps, Sets, Sps};
 
 /// The sets of a picture parameter set's number.

@@ -1,18 +1,17 @@
 ghost use Rattle.std.specs.Prelude.{◌≡◌, ◌+◌, ◌*◌, ◌/◌, ◌≤◌};
 ghost use Rattle.param_sets.specs.SequenceParameterSet.{width_of, height_of};
-ghost use Rattle.param_sets.specs.PpsCodes.{IsPps};
+ghost use Rattle.param_sets.specs.PpsCodes.{IsPps, mode_flag_of};
 ghost use Rattle.param_sets.specs.SpsCodes.{IsSps};
 ghost use Rattle.slice_header.specs.HeaderCodes.{HeaderFits, Names, IsUnder};
 ghost use Rattle.slice_header.specs.Shape.{kind_of, is_mbaff, picture_height, first_address, column_of, shape_of};
-ghost use Rattle.slice_header.specs.SliceHeader.{Active};
-ghost use Rattle.slice_header.specs.Views.{active_view};
+ghost use Rattle.header_parts.specs.ActiveSets.{Active, active_view};
 
-use crate::active_sets::ActiveSets;
-use crate::header::Header;
-use crate::read_header_text::is_i_slice;
-use crate::read_parts::slice_qp_y_of;
 use crate::write_header_text::sets_of;
-use h264_types::{SliceKind, SliceShape};
+use h264_types::{Layer, SliceKind, SliceShape};
+use header_parts::{
+    ActiveSets, Header, active_references_l0, active_references_l1, is_i_slice, references,
+    slice_qp_y_of,
+};
 use param_sets::{Sets, Sps};
 
 /// The type of a slice (Table 7-6).
@@ -76,7 +75,6 @@ fn first_mb_address(active: &ActiveSets<'_>, h: &Header) -> u32
 }
 
 /// What the macroblocks of a slice rest on beside one another: numbers of its header and of the sets that it names.
-/// An I slice has no active references.
 pub fn shape(sets: &Sets, h: &Header) -> SliceShape
     requires { IsUnder sets.now h.now }
     ensures shape { (active : Active) → Names sets.now h.now.pic_parameter_set_id active → result ≡ shape_of active h.now }
@@ -87,12 +85,25 @@ pub fn shape(sets: &Sets, h: &Header) -> SliceShape
     shape_under(&active, h)
 }
 
+/// The layer of a slice, that of the picture parameter set that its header names.
+pub fn layer_of(sets: &Sets, h: &Header) -> Layer
+    requires { IsUnder sets.now h.now }
+    ensures { (active : Active) → Names sets.now h.now.pic_parameter_set_id active → mode_flag_of result ≡ active.pps.entropy_coding_mode_flag }
+{
+    if sets_of(sets, h).pps.entropy_coding_mode_flag {
+        Layer::Cabac
+    } else {
+        Layer::Cavlc
+    }
+}
+
 fn shape_under(active: &ActiveSets<'_>, h: &Header) -> SliceShape
     requires in_range { IsSps active.now.sps.now × IsPps active.now.pps.now }
     requires fits { HeaderFits (active_view active.now) h.now }
     ensures { result ≡ shape_of (active_view active.now) h.now }
 {
     let sps = active.sps;
+    let r = references(h);
     let qp = slice_qp_y_of(active.pps, h.slice_qp_delta).unsigned_abs() as u8;
     SliceShape {
         kind: slice_kind(h.slice_type),
@@ -101,7 +112,10 @@ fn shape_under(active: &ActiveSets<'_>, h: &Header) -> SliceShape
         first: first_mb_address(active, h),
         mbaff: is_mbaff_frame(active, h),
         field_pic: h.field_pic_flag,
-        refs: [0, 0],
+        refs: [
+            active_references_l0(active.pps, h.slice_type, r),
+            active_references_l1(active.pps, h.slice_type, r),
+        ],
         t8_mode: active.pps.transform_8x8_mode_flag,
         direct8: sps.direct_8x8_inference_flag,
         profile: sps.profile_idc as u8,

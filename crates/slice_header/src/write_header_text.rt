@@ -1,21 +1,20 @@
-ghost use Rattle.std.specs.Prelude.{◌≡◌, ◌≤◌, ◌<◌, ◌&&◌, not, if◌then◌else◌};
+ghost use Rattle.std.specs.Prelude.{◌≡◌, ◌≤◌, ◌<◌, ◌&&◌, not, [], ◌∷◌, if◌then◌else◌};
 ghost use Rattle.bit_texts.specs.Texts.{Appends};
+ghost use Rattle.exp_golomb.specs.Code.{ue};
+ghost use Rattle.exp_golomb.specs.Syntax.{joined};
 ghost use Rattle.param_sets.specs.PpsCodes.{IsPps, mode_flag_of};
 ghost use Rattle.param_sets.specs.SpsCodes.{IsSps};
 ghost use Rattle.slice_header.specs.HeaderCodes.{header_text, header_in, active_in, HeaderFits, Names, IsUnder};
-ghost use Rattle.slice_header.specs.SliceHeader.{Active, is_i};
-ghost use Rattle.slice_header.specs.Views.{active_view};
+ghost use Rattle.header_parts.specs.ActiveSets.{Active, active_view};
+ghost use Rattle.header_parts.specs.SliceTypes.{is_i};
 
-use crate::active_sets::ActiveSets;
-use crate::header::Header;
-use crate::read_header_text::is_i_slice;
-use crate::write_element::write_ue_when;
-use crate::write_marking::write_marking;
-use crate::write_parts::{
-    write_deblocking, write_picture_number, write_picture_order, write_start,
-};
-use exp_golomb::{BitSink, write_se};
+use exp_golomb::{BitSink, write_se, write_ue};
 use h264_types::Layer;
+use header_parts::write_element::write_ue_when;
+use header_parts::{
+    ActiveSets, Header, is_i_slice, write_active_references, write_deblocking, write_marking,
+    write_picture_number, write_picture_order, write_reference_lists,
+};
 use param_sets::Sets;
 use std::alloc::AllocError as Memory;
 
@@ -47,6 +46,17 @@ fn needs_init(layer: Layer, slice_type: u32) -> bool
     }
 }
 
+/// The elements up to pic_parameter_set_id.
+fn write_start<B: BitSink>(out: &mut B, h: &Header, number: u8) -> Result<(), Memory>
+    requires first { h.now.first_mb_in_slice ≤ 139263 }
+    requires slice_type { h.now.slice_type ≤ 9 }
+    ensures { Appends (B.bits out.old) (B.bits out.new) (joined (ue h.now.first_mb_in_slice ∷ ue h.now.slice_type ∷ ue number ∷ [])) result }
+{
+    write_ue(out, h.first_mb_in_slice)?;
+    write_ue(out, h.slice_type)?;
+    write_ue(out, u32::from(number))
+}
+
 /// Writes the header under these sets.
 #[tactic(auto, unfolding(crate::specs::HeaderCodes::header_text))]
 fn write_under<B: BitSink>(
@@ -65,6 +75,8 @@ fn write_under<B: BitSink>(
     write_start(out, h, number)?;
     write_picture_number(out, active.sps, h)?;
     write_picture_order(out, active, h)?;
+    write_active_references(out, h)?;
+    write_reference_lists(out, h)?;
     write_marking(out, h)?;
     write_ue_when(out, needs_init(layer, h.slice_type), u32::from(idc))?;
     write_se(out, h.slice_qp_delta)?;

@@ -1,0 +1,11 @@
+pub mod Refusal
+pub mod NalHeader
+pub mod SliceTypes
+pub mod ActiveSets
+pub mod When
+pub mod RefPicMarking
+pub mod Picture
+pub mod QuantisationAndFilter
+pub mod References
+pub mod ReferenceLists
+pub mod PartsOf

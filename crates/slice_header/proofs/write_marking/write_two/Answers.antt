@@ -1,8 +1,0 @@
-use Rattle.slice_header.proofs.Written.{stopped, within, failed, ends, after}
-use Rattle.slice_header.proofs.write_marking.write_two.Goals as goal
-
-pub returns-in_err-write_ue : goal.returns-in_err-write_ue
-returns-in_err-write_ue g c = failed c.from_residual.result c.from_residual.ensures.0 (within _ (stopped c.in_err-write_ue.ensures))
-
-pub returns : goal.returns
-returns g c = (after c.in_ok-write_ue.ensures (ends c.write_ue-2.result c.write_ue-2.ensures)).is
