@@ -1,178 +1,361 @@
--- Reading a macroblock part by part.
-use Rattle.std.proofs.Common.{◌≡◌, ℕ, ◌≤◌, ℤ, pos, Bool, List, ◌++◌, Option, Some, None, refl, sym, ap, subst, ◌∙◌, arith}
-use Rattle.std.specs.Prelude.{replicate}
+-- A macroblock of a type is its prediction and what stands behind that.
+use Rattle.std.proofs.Common.{◌≡◌, ℕ, ◌*◌, ◌≤◌, ℤ, Bool, true, false, List, [], ◌∷◌, ◌++◌, Option, None, refl, sym, ap, subst, ◌∙◌, arith, append-nil}
+use Rattle.std.specs.Prelude.{◌&&◌, ◌||◌, not, ◌==◌, if◌then◌else◌, replicate, slice_index}
 use Rattle.bit_texts.specs.Texts.{Reads, IsPrefixFree, IsWhen, when_text}
-use Rattle.bit_texts.proofs.Reading.{IsPrefixFree-when}
-use Rattle.bit_texts.proofs.Turns.{IsPrefixFree-turns}
-use Rattle.exp_golomb.specs.Code.{ue, se}
-use Rattle.h264_types.specs.Kind.{is_i_nxn, is_i_16x16}
-use Rattle.h264_types.specs.Macroblock.{no_elements, pattern_of}
+use Rattle.exp_golomb.specs.Code.{ue}
+use Rattle.h264_types.specs.Kind.{is_intra, is_i_nxn}
+use Rattle.h264_types.specs.Macroblock.{no_elements}
+use Rattle.h264_types.specs.Valid.{takes_t8}
 use Rattle.h264_types.specs.declared.macroblock.MbKind.{MbKind}
+use Rattle.h264_types.specs.declared.macroblock.MbKind.TheVariants as kinds
+use Rattle.h264_types.specs.declared.macroblock.MbKind.TheVariants.{Intra}
 use Rattle.h264_types.specs.declared.macroblock.Mb.{Mb}
-use Rattle.h264_types.specs.declared.macroblock.Pattern.{Pattern}
-use Rattle.cavlc_macroblock.specs.declared.counts.Around.{Around}
-use Rattle.cavlc_macroblock.specs.MacroblockLayer.{mode_text, AreModes, modes_text, IsPattern, pattern_text, no_pattern, IsQpDelta, sends_qp_delta, residual_text, IsResidual, with_residual, layer_text, IsLayer}
-use Rattle.cavlc_macroblock.proofs.ElementLaws.{IsPrefixFree-mode, IsPrefixFree-ue, IsPrefixFree-pattern, IsPrefixFree-qp_delta}
-use Rattle.cavlc_macroblock.proofs.ResidualChain.{Is0}
-use Rattle.cavlc_macroblock.proofs.Chain.{Reads-part, Reads-no_part}
+use Rattle.h264_types.specs.declared.slice_shape.SliceShape.{SliceShape}
+use Rattle.cavlc_inter.specs.InterPrediction.{IsInter, inter_text, with_inter, active_refs, greatest_of}
+use Rattle.cavlc_inter.proofs.InterChain.{IsPrefixFree-inter}
+use Rattle.cavlc_mb_residual.specs.declared.counts.Around.{Around}
+use Rattle.cavlc_mb_residual.proofs.Chain.{Reads-part, Reads-no_part, IsPrefixFree-part}
+use Rattle.cavlc_macroblock.specs.MacroblockLayer.{HasFewRefs, IsFlag, flag_text, sends_t8_first, sends_t8_last, AreModes, modes_text, IsIntra, intra_text, with_intra, IsPrediction, prediction_text, IsCoding, coding_text, with_coding, IsLayer, layer_text}
+use Rattle.cavlc_macroblock.proofs.ReadsLaws.{Reads-as}
+use Rattle.cavlc_macroblock.proofs.IntraChain.{I0, IsPrefixFree-intra}
+use Rattle.cavlc_macroblock.proofs.IntraInter.{HasNoInter, intra_sends, no_inter, inter_none, no_inter_text, no_refs}
+use Rattle.cavlc_macroblock.proofs.CodingChain.{C0, IsPrefixFree-coding}
 
-pub IsPrefixFree-modes : IsPrefixFree AreModes modes_text
-IsPrefixFree-modes = IsPrefixFree-turns (λ (s : ℕ) mode. mode ≤ 8) (λ (s : ℕ) mode. mode_text mode) (λ (s mode : ℕ). s) (λ s. IsPrefixFree-mode) 16 0
+-- ---- the active references, outside MBAFF
 
--- ---- what is known of the macroblock after each part, and the texts that follow
+abbrev pub frame_refs : SliceShape → List ℕ
+frame_refs shape = slice_index shape.refs 0 ∷ slice_index shape.refs 1 ∷ []
 
-abbrev pub L1 : MbKind → Bool → ℕ → List ℕ → Mb → Type 0
-L1 kind field bound modes m = IsLayer kind field bound m × (m.modes ≡ modes)
+pub active_in_frame : (shape : SliceShape) (m : Mb) → m.field ≡ false → active_refs shape m ≡ frame_refs shape
+active_in_frame shape m e =
+    let F : Bool → List ℕ = λ f. slice_index shape.refs 0 * (if shape.mbaff && f then 2 else 1) ∷ slice_index shape.refs 1 * (if shape.mbaff && f then 2 else 1) ∷ [] in
+    ap F e ∙ once shape.mbaff
+  where
+    once : (b : Bool) → ◌≡◌ {A = List ℕ} (slice_index shape.refs 0 * (if b && false then 2 else 1) ∷ slice_index shape.refs 1 * (if b && false then 2 else 1) ∷ []) (frame_refs shape)
+    once true = let e0 : slice_index shape.refs 0 * 1 ≡ slice_index shape.refs 0 = omega arith in let e1 : slice_index shape.refs 1 * 1 ≡ slice_index shape.refs 1 = omega arith in rw (e0, e1) refl
+    once false = let e0 : slice_index shape.refs 0 * 1 ≡ slice_index shape.refs 0 = omega arith in let e1 : slice_index shape.refs 1 * 1 ≡ slice_index shape.refs 1 = omega arith in rw (e0, e1) refl
 
-abbrev pub L2 : MbKind → Bool → ℕ → List ℕ → ℕ → Mb → Type 0
-L2 kind field bound modes cm m = L1 kind field bound modes m × (m.chroma_mode ≡ cm)
+-- by the first two numbers of a list alone
+pub inter_by_refs : (kind : MbKind) (ref0 : Bool) (shape : SliceShape) (m : Mb) → IsInter kind ref0 shape.refs m → IsInter kind ref0 (frame_refs shape) m
+inter_by_refs kind ref0 shape m is = record { subs = is.subs; refs_l0 = is.refs_l0; refs_l1 = is.refs_l1; mvd_l0 = is.mvd_l0; mvd_l1 = is.mvd_l1; lists = is.lists }
 
-abbrev pub L3 : MbKind → Bool → ℕ → List ℕ → ℕ → Pattern → Mb → Type 0
-L3 kind field bound modes cm p m = L2 kind field bound modes cm m × (m.pattern ≡ p)
+pub refs_by_inter : (kind : MbKind) (ref0 : Bool) (shape : SliceShape) (m : Mb) → IsInter kind ref0 (frame_refs shape) m → IsInter kind ref0 shape.refs m
+refs_by_inter kind ref0 shape m is = record { subs = is.subs; refs_l0 = is.refs_l0; refs_l1 = is.refs_l1; mvd_l0 = is.mvd_l0; mvd_l1 = is.mvd_l1; lists = is.lists }
 
-abbrev pub L4 : MbKind → Bool → ℕ → List ℕ → ℕ → Pattern → ℤ → Mb → Type 0
-L4 kind field bound modes cm p delta m = L3 kind field bound modes cm p m × (m.qp_delta ≡ delta)
+pub text_by_refs : (kind : MbKind) (ref0 : Bool) (shape : SliceShape) (m : Mb) → inter_text kind ref0 shape.refs m ≡ inter_text kind ref0 (frame_refs shape) m
+unfolding inter_text
+text_by_refs kind ref0 shape m = refl
 
-abbrev pub t4 : Around → MbKind → Mb → List Bool
-t4 around kind m = residual_text around (is_i_16x16 kind) (pattern_of m) m
+-- what is made of the lists of a macroblock alone
+inter_of_lists : (kind : MbKind) (ref0 : Bool) (active : List ℕ) (old m : Mb) → IsInter kind ref0 active m → IsInter kind ref0 active (with_inter old m)
+inter_of_lists kind ref0 active old m is = record { subs = is.subs; refs_l0 = is.refs_l0; refs_l1 = is.refs_l1; mvd_l0 = is.mvd_l0; mvd_l1 = is.mvd_l1; lists = is.lists }
 
-abbrev pub t3 : Around → MbKind → Mb → List Bool
-t3 around kind m = when_text (sends_qp_delta kind m.pattern) se m.qp_delta ++ t4 around kind m
+lists_of_inter : (kind : MbKind) (ref0 : Bool) (active : List ℕ) (old m : Mb) → IsInter kind ref0 active (with_inter old m) → IsInter kind ref0 active m
+lists_of_inter kind ref0 active old m is = record { subs = is.subs; refs_l0 = is.refs_l0; refs_l1 = is.refs_l1; mvd_l0 = is.mvd_l0; mvd_l1 = is.mvd_l1; lists = is.lists }
 
-abbrev pub t2 : Around → MbKind → Mb → List Bool
-t2 around kind m = when_text (is_i_nxn kind) pattern_text m.pattern ++ t3 around kind m
+text_of_lists : (kind : MbKind) (ref0 : Bool) (active : List ℕ) (old m : Mb) → inter_text kind ref0 active (with_inter old m) ≡ inter_text kind ref0 active m
+unfolding inter_text
+text_of_lists kind ref0 active old m = refl
 
-abbrev pub t1 : Around → MbKind → Mb → List Bool
-t1 around kind m = ue m.chroma_mode ++ t2 around kind m
+-- ---- the prediction, of intra types and of others
 
--- ---- one part after another
+-- a macroblock that has its type
+abbrev pub typed : MbKind → Bool → Mb
+typed kind ref0 = record (no_elements kind) { ref0 = ref0 }
 
-pub after_modes : (around : Around) (kind : MbKind) (field : Bool) (bound : ℕ) (b : Bool) → b ≡ is_i_nxn kind → (modes : List ℕ) (left mid : List Bool) → IsWhen b (replicate 16 0) AreModes modes × (left ≡ when_text b modes_text modes ++ mid)
-    → (r : Option Mb) (rest : List Bool) → Reads (L1 kind field bound modes) (t1 around kind) mid r rest → Reads (IsLayer kind field bound) (layer_text around kind) left r rest
-unfolding layer_text
-after_modes around kind field bound b e modes left mid read r rest h =
-    let P : Bool → Type 0 = λ x. IsWhen x (replicate 16 0) AreModes modes × (left ≡ when_text x modes_text modes ++ mid) in
-    Reads-part (IsLayer kind field bound) (IsWhen (is_i_nxn kind) (replicate 16 0) AreModes) (when_text (is_i_nxn kind) modes_text) (λ m. m.modes) (λ m. when_text (is_i_nxn kind) modes_text m.modes) (t1 around kind)
-    (IsPrefixFree-when (is_i_nxn kind) (replicate 16 0) AreModes modes_text IsPrefixFree-modes) (λ m q. q.modes) (λ m q. refl) modes left mid (subst P e read) r rest h
+abbrev pub with_prediction : MbKind → Bool → Mb → Mb
+with_prediction kind ref0 m = record (typed kind ref0) { t8 = m.t8; modes = m.modes; chroma_mode = m.chroma_mode; subs = m.subs; refs = m.refs; mvd = m.mvd }
 
-pub no_modes : (around : Around) (kind : MbKind) (field : Bool) (bound : ℕ) (b : Bool) → b ≡ is_i_nxn kind → (left mid rest : List Bool) → Reads (IsWhen b (replicate 16 0) AreModes) (when_text b modes_text) left None mid → Reads (IsLayer kind field bound) (layer_text around kind) left None rest
-unfolding layer_text
-no_modes around kind field bound b e left mid rest none =
-    let P : Bool → Type 0 = λ x. Reads (IsWhen x (replicate 16 0) AreModes) (when_text x modes_text) left None mid in
-    Reads-no_part (IsLayer kind field bound) (IsWhen (is_i_nxn kind) (replicate 16 0) AreModes) (when_text (is_i_nxn kind) modes_text) (λ m. m.modes) (λ m. when_text (is_i_nxn kind) modes_text m.modes) (t1 around kind)
-    (λ m q. q.modes) (λ m q. refl) left mid rest (subst P e none)
+frame_of : (shape : SliceShape) (kind : MbKind) (ref0 : Bool) (m : Mb) → IsPrediction shape kind ref0 m → m.field ≡ false
+frame_of shape kind ref0 m is = ap (λ (x : Mb). x.field) is.absent
 
-pub after_chroma : (around : Around) (kind : MbKind) (field : Bool) (bound : ℕ) (modes : List ℕ) (cm : ℕ) (left mid : List Bool) → (cm ≤ 3) × (left ≡ ue cm ++ mid)
-    → (r : Option Mb) (rest : List Bool) → Reads (L2 kind field bound modes cm) (t2 around kind) mid r rest → Reads (L1 kind field bound modes) (t1 around kind) left r rest
-after_chroma around kind field bound modes cm left mid read r rest h =
-    Reads-part (L1 kind field bound modes) (λ v. v ≤ 3) ue (λ m. m.chroma_mode) (λ m. ue m.chroma_mode) (t2 around kind) (IsPrefixFree-ue 3 (omega arith)) (λ m q. q.0.chroma_mode) (λ m q. refl) cm left mid read r rest h
+without_inter : (kind : MbKind) (ref0 : Bool) (m : Mb) → HasNoInter m → with_prediction kind ref0 m ≡ with_intra (typed kind ref0) m
+without_inter kind ref0 m lacks =
+    let R : List ℕ → List (List ℕ) → List (List (List ℤ)) → Mb = λ a b c. record (typed kind ref0) { t8 = m.t8; modes = m.modes; chroma_mode = m.chroma_mode; subs = a; refs = b; mvd = c } in
+    ap (λ a. R a m.refs m.mvd) lacks.subs ∙ ap (λ b. R (replicate 4 0) b m.mvd) lacks.refs ∙ ap (R (replicate 4 0) no_refs) lacks.mvd
 
-pub no_chroma : (around : Around) (kind : MbKind) (field : Bool) (bound : ℕ) (modes : List ℕ) (left mid rest : List Bool) → Reads (λ v. v ≤ 3) ue left None mid → Reads (L1 kind field bound modes) (t1 around kind) left None rest
-no_chroma around kind field bound modes left mid rest none =
-    Reads-no_part (L1 kind field bound modes) (λ v. v ≤ 3) ue (λ m. m.chroma_mode) (λ m. ue m.chroma_mode) (t2 around kind) (λ m q. q.0.chroma_mode) (λ m q. refl) left mid rest none
+none_of : (kind : MbKind) (ref0 : Bool) (m : Mb) → m ≡ with_intra (typed kind ref0) m → HasNoInter m
+none_of kind ref0 m e = record { subs = ap (λ (x : Mb). x.subs) e; refs = ap (λ (x : Mb). x.refs) e; mvd = ap (λ (x : Mb). x.mvd) e }
 
-pub after_pattern : (around : Around) (kind : MbKind) (field : Bool) (bound : ℕ) (modes : List ℕ) (cm : ℕ) (b : Bool) → b ≡ is_i_nxn kind → (p : Pattern) (left mid : List Bool) → IsWhen b no_pattern IsPattern p × (left ≡ when_text b pattern_text p ++ mid)
-    → (r : Option Mb) (rest : List Bool) → Reads (L3 kind field bound modes cm p) (t3 around kind) mid r rest → Reads (L2 kind field bound modes cm) (t2 around kind) left r rest
-after_pattern around kind field bound modes cm b e p left mid read r rest h =
-    let P : Bool → Type 0 = λ x. IsWhen x no_pattern IsPattern p × (left ≡ when_text x pattern_text p ++ mid) in
-    Reads-part (L2 kind field bound modes cm) (IsWhen (is_i_nxn kind) no_pattern IsPattern) (when_text (is_i_nxn kind) pattern_text) (λ m. m.pattern) (λ m. when_text (is_i_nxn kind) pattern_text m.pattern) (t3 around kind)
-    (IsPrefixFree-when (is_i_nxn kind) no_pattern IsPattern pattern_text IsPrefixFree-pattern) (λ m q. q.0.0.pattern) (λ m q. refl) p left mid (subst P e read) r rest h
+pub intra_prediction : (shape : SliceShape) (kind : MbKind) (ref0 : Bool) → is_intra kind ≡ true → (left : List Bool) (r : Option Mb) (rest : List Bool)
+    → Reads (I0 shape kind (typed kind ref0)) (intra_text shape kind) left r rest → Reads (IsPrediction shape kind ref0) (prediction_text shape kind ref0) left r rest
+intra_prediction shape kind ref0 intra =
+    Reads-as (I0 shape kind (typed kind ref0)) (IsPrediction shape kind ref0) (intra_text shape kind) (prediction_text shape kind ref0)
+    (λ m q. record {
+      absent = q.1 ∙ sym (without_inter kind ref0 m (none_of kind ref0 m q.1));
+      intra = q.0;
+      inter = inter_none kind ref0 (active_refs shape m) m (intra_sends kind intra) (none_of kind ref0 m q.1);
+    })
+    (λ m is. (is.intra, is.absent ∙ without_inter kind ref0 m (no_inter kind ref0 (active_refs shape m) m (intra_sends kind intra) is.inter)))
+    (λ m is. sym (ap (λ t. intra_text shape kind m ++ t) (no_inter_text kind ref0 (active_refs shape m) m (intra_sends kind intra)) ∙ append-nil (intra_text shape kind m)))
 
-pub no_pattern_there : (around : Around) (kind : MbKind) (field : Bool) (bound : ℕ) (modes : List ℕ) (cm : ℕ) (b : Bool) → b ≡ is_i_nxn kind → (left mid rest : List Bool) → Reads (IsWhen b no_pattern IsPattern) (when_text b pattern_text) left None mid → Reads (L2 kind field bound modes cm) (t2 around kind) left None rest
-no_pattern_there around kind field bound modes cm b e left mid rest none =
-    let P : Bool → Type 0 = λ x. Reads (IsWhen x no_pattern IsPattern) (when_text x pattern_text) left None mid in
-    Reads-no_part (L2 kind field bound modes cm) (IsWhen (is_i_nxn kind) no_pattern IsPattern) (when_text (is_i_nxn kind) pattern_text) (λ m. m.pattern) (λ m. when_text (is_i_nxn kind) pattern_text m.pattern) (t3 around kind)
-    (λ m q. q.0.0.pattern) (λ m q. refl) left mid rest (subst P e none)
+-- what other types have of intra prediction
+pub record HasNoIntra (m : Mb) : Type 0 where
+  pub t8 : m.t8 ≡ false
+  pub modes : m.modes ≡ replicate 16 0
+  pub chroma_mode : m.chroma_mode ≡ 0
 
-pub delta_in_range : (kind : MbKind) (field : Bool) (bound : ℕ) (modes : List ℕ) (cm : ℕ) (p : Pattern) (m : Mb) → L3 kind field bound modes cm p m → IsWhen (sends_qp_delta kind p) (pos 0) IsQpDelta m.qp_delta
-delta_in_range kind field bound modes cm p m q = let P : Pattern → Type 0 = λ x. IsWhen (sends_qp_delta kind x) (pos 0) IsQpDelta m.qp_delta in subst P q.1 q.0.0.0.qp_delta
+no_both : (a : Bool) → (a && false) ≡ false
+no_both true = refl
+no_both false = refl
 
-pub after_delta : (around : Around) (kind : MbKind) (field : Bool) (bound : ℕ) (modes : List ℕ) (cm : ℕ) (p : Pattern) (b : Bool) → b ≡ sends_qp_delta kind p → (delta : ℤ) (left mid : List Bool) → IsWhen b (pos 0) IsQpDelta delta × (left ≡ when_text b se delta ++ mid)
-    → (r : Option Mb) (rest : List Bool) → Reads (L4 kind field bound modes cm p delta) (t4 around kind) mid r rest → Reads (L3 kind field bound modes cm p) (t3 around kind) left r rest
-after_delta around kind field bound modes cm p b e delta left mid read r rest h =
-    let P : Bool → Type 0 = λ x. IsWhen x (pos 0) IsQpDelta delta × (left ≡ when_text x se delta ++ mid) in
-    Reads-part (L3 kind field bound modes cm p) (IsWhen (sends_qp_delta kind p) (pos 0) IsQpDelta) (when_text (sends_qp_delta kind p) se) (λ m. m.qp_delta) (λ m. when_text (sends_qp_delta kind m.pattern) se m.qp_delta) (t4 around kind)
-    (IsPrefixFree-when (sends_qp_delta kind p) (pos 0) IsQpDelta se IsPrefixFree-qp_delta) (delta_in_range kind field bound modes cm p) (λ m q. ap (λ x. when_text (sends_qp_delta kind x) se m.qp_delta) q.1) delta left mid (subst P e read) r rest h
+no_intra : (shape : SliceShape) (kind : MbKind) (m : Mb) → is_intra kind ≡ false → IsIntra shape kind m → HasNoIntra m
+no_intra shape (Intra n) m e is = absurd cc
+no_intra shape kinds.Skip m e is = record { t8 = subst (λ b. IsWhen b false IsFlag m.t8) (no_both shape.t8_mode) is.t8; modes = is.modes; chroma_mode = is.chroma_mode }
+no_intra shape (kinds.P n) m e is = record { t8 = subst (λ b. IsWhen b false IsFlag m.t8) (no_both shape.t8_mode) is.t8; modes = is.modes; chroma_mode = is.chroma_mode }
+no_intra shape (kinds.B n) m e is = record { t8 = subst (λ b. IsWhen b false IsFlag m.t8) (no_both shape.t8_mode) is.t8; modes = is.modes; chroma_mode = is.chroma_mode }
 
-pub no_delta : (around : Around) (kind : MbKind) (field : Bool) (bound : ℕ) (modes : List ℕ) (cm : ℕ) (p : Pattern) (b : Bool) → b ≡ sends_qp_delta kind p → (left mid rest : List Bool) → Reads (IsWhen b (pos 0) IsQpDelta) (when_text b se) left None mid → Reads (L3 kind field bound modes cm p) (t3 around kind) left None rest
-no_delta around kind field bound modes cm p b e left mid rest none =
-    let P : Bool → Type 0 = λ x. Reads (IsWhen x (pos 0) IsQpDelta) (when_text x se) left None mid in
-    Reads-no_part (L3 kind field bound modes cm p) (IsWhen (sends_qp_delta kind p) (pos 0) IsQpDelta) (when_text (sends_qp_delta kind p) se) (λ m. m.qp_delta) (λ m. when_text (sends_qp_delta kind m.pattern) se m.qp_delta) (t4 around kind)
-    (delta_in_range kind field bound modes cm p) (λ m q. ap (λ x. when_text (sends_qp_delta kind x) se m.qp_delta) q.1) left mid rest (subst P e none)
+intra_none : (shape : SliceShape) (kind : MbKind) (m : Mb) → is_intra kind ≡ false → HasNoIntra m → IsIntra shape kind m
+intra_none shape (Intra n) m e lacks = absurd cc
+intra_none shape kinds.Skip m e lacks = record { t8 = subst (λ b. IsWhen b false IsFlag m.t8) (sym (no_both shape.t8_mode)) lacks.t8; modes = lacks.modes; chroma_mode = lacks.chroma_mode }
+intra_none shape (kinds.P n) m e lacks = record { t8 = subst (λ b. IsWhen b false IsFlag m.t8) (sym (no_both shape.t8_mode)) lacks.t8; modes = lacks.modes; chroma_mode = lacks.chroma_mode }
+intra_none shape (kinds.B n) m e lacks = record { t8 = subst (λ b. IsWhen b false IsFlag m.t8) (sym (no_both shape.t8_mode)) lacks.t8; modes = lacks.modes; chroma_mode = lacks.chroma_mode }
 
--- ---- the residual
+no_intra_text : (shape : SliceShape) (kind : MbKind) (m : Mb) → is_intra kind ≡ false → intra_text shape kind m ≡ []
+no_intra_text shape (Intra n) m e = absurd cc
+no_intra_text shape kinds.Skip m e = ap (λ b. when_text b flag_text m.t8 ++ []) (no_both shape.t8_mode)
+no_intra_text shape (kinds.P n) m e = ap (λ b. when_text b flag_text m.t8 ++ []) (no_both shape.t8_mode)
+no_intra_text shape (kinds.B n) m e = ap (λ b. when_text b flag_text m.t8 ++ []) (no_both shape.t8_mode)
 
--- a macroblock of these elements
-abbrev pub made : MbKind → Bool → List ℕ → ℕ → Pattern → ℤ → Mb
-made kind field modes cm p delta = record (no_elements kind) { field = field; modes = modes; chroma_mode = cm; pattern = p; qp_delta = delta }
+without_intra : (kind : MbKind) (ref0 : Bool) (m : Mb) → HasNoIntra m → with_prediction kind ref0 m ≡ with_inter (typed kind ref0) m
+without_intra kind ref0 m lacks =
+    let R : Bool → List ℕ → ℕ → Mb = λ a b c. record (typed kind ref0) { t8 = a; modes = b; chroma_mode = c; subs = m.subs; refs = m.refs; mvd = m.mvd } in
+    ap (λ a. R a m.modes m.chroma_mode) lacks.t8 ∙ ap (λ b. R false b m.chroma_mode) lacks.modes ∙ ap (R false (replicate 16 0)) lacks.chroma_mode
 
-same_made : (kind : MbKind) (field : Bool) (m : Mb) (modes modes' : List ℕ) (cm cm' : ℕ) (p p' : Pattern) (delta delta' : ℤ) → modes ≡ modes' → cm ≡ cm' → p ≡ p' → delta ≡ delta' → with_residual (made kind field modes cm p delta) m ≡ with_residual (made kind field modes' cm' p' delta') m
-same_made kind field m modes modes' cm cm' p p' delta delta' e1 e2 e3 e4 = cc
+modes_of : (kind : MbKind) (ref0 : Bool) (m : Mb) → m ≡ with_inter (typed kind ref0) m → HasNoIntra m
+modes_of kind ref0 m e = record { t8 = ap (λ (x : Mb). x.t8) e; modes = ap (λ (x : Mb). x.modes) e; chroma_mode = ap (λ (x : Mb). x.chroma_mode) e }
 
-pub record Ranges (kind : MbKind) (xs : List ℕ) (cm : ℕ) (p : Pattern) (delta : ℤ) : Type 0 where
-  pub modes : IsWhen (is_i_nxn kind) (replicate 16 0) AreModes xs
-  pub chroma_mode : cm ≤ 3
-  pub pattern : IsWhen (is_i_nxn kind) no_pattern IsPattern p
-  pub qp_delta : IsWhen (sends_qp_delta kind p) (pos 0) IsQpDelta delta
+pub inter_prediction : (shape : SliceShape) (kind : MbKind) (ref0 : Bool) → is_intra kind ≡ false → (left : List Bool) (r : Option Mb) (rest : List Bool)
+    → Reads (λ m. IsInter kind ref0 shape.refs m × (m ≡ with_inter (typed kind ref0) m)) (inter_text kind ref0 shape.refs) left r rest → Reads (IsPrediction shape kind ref0) (prediction_text shape kind ref0) left r rest
+inter_prediction shape kind ref0 other =
+    Reads-as (λ m. IsInter kind ref0 shape.refs m × (m ≡ with_inter (typed kind ref0) m)) (IsPrediction shape kind ref0) (inter_text kind ref0 shape.refs) (prediction_text shape kind ref0)
+    (λ m q. record {
+      absent = q.1 ∙ sym (without_intra kind ref0 m (modes_of kind ref0 m q.1));
+      intra = intra_none shape kind m other (modes_of kind ref0 m q.1);
+      inter = subst (λ a. IsInter kind ref0 a m) (sym (active_in_frame shape m (ap (λ (x : Mb). x.field) q.1))) (inter_by_refs kind ref0 shape m q.0);
+    })
+    (λ m is. (refs_by_inter kind ref0 shape m (subst (λ a. IsInter kind ref0 a m) (active_in_frame shape m (frame_of shape kind ref0 m is)) is.inter), is.absent ∙ without_intra kind ref0 m (no_intra shape kind m other is.intra)))
+    (λ m is. text_by_refs kind ref0 shape m ∙ ap (λ a. inter_text kind ref0 a m) (sym (active_in_frame shape m (frame_of shape kind ref0 m is))) ∙ sym (ap (λ t. t ++ inter_text kind ref0 (active_refs shape m) m) (no_intra_text shape kind m other)))
 
-to_layer : (kind : MbKind) (field : Bool) (bound : ℕ) (modes : List ℕ) (cm : ℕ) (p : Pattern) (delta : ℤ) (m : Mb) → Ranges kind modes cm p delta
-    → Is0 (is_i_16x16 kind) (pattern_of (made kind field modes cm p delta)) bound (made kind field modes cm p delta) m → L4 kind field bound modes cm p delta m
-to_layer kind field bound modes cm p delta m ranges q =
-    let e1 : m.modes ≡ modes = ap (λ (x : Mb). x.modes) q.1 in
-    let e2 : m.chroma_mode ≡ cm = ap (λ (x : Mb). x.chroma_mode) q.1 in
-    let e3 : m.pattern ≡ p = ap (λ (x : Mb). x.pattern) q.1 in
-    let e4 : m.qp_delta ≡ delta = ap (λ (x : Mb). x.qp_delta) q.1 in
-    let P : Pattern → Type 0 = λ x. IsResidual (is_i_16x16 kind) x bound m in
-    let D : Pattern → ℤ → Type 0 = λ x d. IsWhen (sends_qp_delta kind x) (pos 0) IsQpDelta d in (
-      (
-        (
-          (
-            record {
-              absent = q.1 ∙ same_made kind field m modes m.modes cm m.chroma_mode p m.pattern delta m.qp_delta (sym e1) (sym e2) (sym e3) (sym e4);
-              modes = subst (IsWhen (is_i_nxn kind) (replicate 16 0) AreModes) (sym e1) ranges.modes;
-              chroma_mode = omega (arith, e2, ranges.chroma_mode);
-              pattern = subst (IsWhen (is_i_nxn kind) no_pattern IsPattern) (sym e3) ranges.pattern;
-              qp_delta = subst (λ x. D x m.qp_delta) (sym e3) (subst (D p) (sym e4) ranges.qp_delta);
-              residual = subst P (sym (ap pattern_of q.1)) q.0;
-            },
-            e1,
-          ),
-          e2,
-        ),
-        e3,
-      ),
-      e4,
-    )
+-- ---- no text of a prediction begins another one
 
-pub from_layer : (kind : MbKind) (field : Bool) (bound : ℕ) (modes : List ℕ) (cm : ℕ) (p : Pattern) (delta : ℤ) (m : Mb) → L4 kind field bound modes cm p delta m
-    → Is0 (is_i_16x16 kind) (pattern_of (made kind field modes cm p delta)) bound (made kind field modes cm p delta) m
-from_layer kind field bound modes cm p delta m q =
-    let same : m ≡ with_residual (made kind field modes cm p delta) m = q.0.0.0.0.absent ∙ same_made kind field m m.modes modes m.chroma_mode cm m.pattern p m.qp_delta delta q.0.0.0.1 q.0.0.1 q.0.1 q.1 in
-    let P : Pattern → Type 0 = λ x. IsResidual (is_i_16x16 kind) x bound m in
-    (subst P (ap pattern_of same) q.0.0.0.0.residual, same)
+few : (shape : SliceShape) (ref0 : Bool) (x : ℕ) → slice_index (frame_refs shape) x ≤ 32 → greatest_of ref0 (frame_refs shape) x ≤ 255
+few shape true x h = omega arith
+few shape false x h = omega arith
 
-pub residual_of_layer : (around : Around) (kind : MbKind) (field : Bool) (bound : ℕ) (modes : List ℕ) (cm : ℕ) (p : Pattern) (delta : ℤ) → Ranges kind modes cm p delta → (left : List Bool) (r : Option Mb) (rest : List Bool)
-    → Reads (Is0 (is_i_16x16 kind) (pattern_of (made kind field modes cm p delta)) bound (made kind field modes cm p delta)) (residual_text around (is_i_16x16 kind) (pattern_of (made kind field modes cm p delta))) left r rest
-    → Reads (L4 kind field bound modes cm p delta) (t4 around kind) left r rest
-residual_of_layer around kind field bound modes cm p delta ranges left None rest none = λ m more q bad.
-    let is = from_layer kind field bound modes cm p delta m q in
-    none m more is (bad ∙ ap (λ x. residual_text around (is_i_16x16 kind) x m ++ more) (ap pattern_of is.1))
-residual_of_layer around kind field bound modes cm p delta ranges left (Some m) rest some =
-    (to_layer kind field bound modes cm p delta m ranges some.0, some.1 ∙ ap (λ x. residual_text around (is_i_16x16 kind) x m ++ rest) (sym (ap pattern_of some.0.1)))
+pub IsPrefixFree-prediction : (shape : SliceShape) (kind : MbKind) (ref0 : Bool) → HasFewRefs shape → IsPrefixFree (IsPrediction shape kind ref0) (prediction_text shape kind ref0)
+IsPrefixFree-prediction shape kind ref0 refs =
+    IsPrefixFree-part (IsPrediction shape kind ref0) (I0 shape kind (typed kind ref0)) (intra_text shape kind) (with_intra (typed kind ref0)) (intra_text shape kind) (λ m. inter_text kind ref0 (active_refs shape m) m)
+    (IsPrefixFree-intra shape kind (typed kind ref0)) (λ m is. (record { t8 = is.intra.t8; modes = is.intra.modes; chroma_mode = is.intra.chroma_mode }, refl)) (λ m is. refl) (λ a _.
+    λ v w x y p q e.
+    let A : List ℕ = frame_refs shape in
+    let ev = active_in_frame shape v (frame_of shape kind ref0 v p.0) in
+    let ew = active_in_frame shape w (frame_of shape kind ref0 w q.0) in
+    let In : Mb → List ℕ → Type 0 = λ m t. IsInter kind ref0 t m in
+    IsPrefixFree-inter kind ref0 A a (few shape ref0 0 refs.l0) (few shape ref0 1 refs.l1) v w x y
+    (subst (In v) ev p.0.inter, p.0.absent ∙ ap (λ old. with_inter old v) p.1) (subst (In w) ew q.0.inter, q.0.absent ∙ ap (λ old. with_inter old w) q.1)
+    (ap (λ t. inter_text kind ref0 t v ++ x) (sym ev) ∙ e ∙ ap (λ t. inter_text kind ref0 t w ++ y) ew))
 
-pub ranges_of : (kind : MbKind) (b s : Bool) → b ≡ is_i_nxn kind → (modes : List ℕ) (cm : ℕ) (p : Pattern) (delta : ℤ) → s ≡ sends_qp_delta kind p → IsWhen b (replicate 16 0) AreModes modes → cm ≤ 3 → IsWhen b no_pattern IsPattern p → IsWhen s (pos 0) IsQpDelta delta → Ranges kind modes cm p delta
-ranges_of kind b s e modes cm p delta f h1 h2 h3 h4 = record {
-  modes = subst (λ x. IsWhen x (replicate 16 0) AreModes modes) e h1;
-  chroma_mode = h2;
-  pattern = subst (λ x. IsWhen x no_pattern IsPattern p) e h3;
-  qp_delta = subst (λ x. IsWhen x (pos 0) IsQpDelta delta) f h4;
+-- ---- transform_size_8x8_flag, which I_NxN sends first and others last
+
+flag_first : (mode nxn behind : Bool) (t8 : Bool) → (t8 ≡ true → (mode && (nxn || behind)) ≡ true) → IsWhen (mode && nxn) false IsFlag (nxn && t8)
+flag_first true true behind t8 h = tt
+flag_first true false behind t8 h = refl
+flag_first false true behind true h = absurd (let e = h refl in cc)
+flag_first false true behind false h = refl
+flag_first false false behind t8 h = refl
+
+flag_last : (mode nxn behind : Bool) (t8 : Bool) → (t8 ≡ true → (mode && (nxn || behind)) ≡ true) → IsWhen (mode && behind) (nxn && t8) IsFlag t8
+flag_last true true true t8 h = tt
+flag_last true true false t8 h = refl
+flag_last true false true t8 h = tt
+flag_last true false false true h = absurd (let e = h refl in cc)
+flag_last true false false false h = refl
+flag_last false true behind t8 h = refl
+flag_last false false behind true h = absurd (let e = h refl in cc)
+flag_last false false behind false h = refl
+
+flags : (mode nxn behind first t8 : Bool) → (nxn ≡ true → behind ≡ false) → IsWhen (mode && nxn) false IsFlag first → IsWhen (mode && behind) first IsFlag t8 → (t8 ≡ true → (mode && (nxn || behind)) ≡ true) × ((nxn && t8) ≡ first)
+flags true true true first t8 apart p q = absurd (let e = apart refl in cc)
+flags true true false first t8 apart p q = (λ e. refl, q)
+flags true false true first t8 apart p q = (λ e. refl, sym p)
+flags true false false first t8 apart p q = (λ e. absurd (cc (e, p, q)), sym p)
+flags false true behind first t8 apart p q = (λ e. absurd (cc (e, p, q)), q)
+flags false false behind first t8 apart p q = (λ e. absurd (cc (e, p, q)), sym p)
+
+apart : (luma : ℕ) (direct8 : Bool) (kind : MbKind) (subs : List ℕ) → is_i_nxn kind ≡ true → (not (luma == 0) && takes_t8 direct8 kind subs) ≡ false
+apart luma direct8 (Intra n) subs e = no_both (not (luma == 0))
+apart luma direct8 kinds.Skip subs e = absurd cc
+apart luma direct8 (kinds.P n) subs e = absurd cc
+apart luma direct8 (kinds.B n) subs e = absurd cc
+
+modes_by_flag : (nxn first t8 : Bool) (modes : List ℕ) → (nxn && t8) ≡ first → IsWhen nxn (replicate 16 0) (AreModes t8) modes → IsWhen nxn (replicate 16 0) (AreModes first) modes
+modes_by_flag true first t8 modes e is = subst (λ b. AreModes b modes) e is
+modes_by_flag false first t8 modes e is = is
+
+flag_by_modes : (nxn first t8 : Bool) (modes : List ℕ) → (nxn && t8) ≡ first → IsWhen nxn (replicate 16 0) (AreModes first) modes → IsWhen nxn (replicate 16 0) (AreModes t8) modes
+flag_by_modes true first t8 modes e is = subst (λ b. AreModes b modes) (sym e) is
+flag_by_modes false first t8 modes e is = is
+
+-- ---- a macroblock, its prediction, and what stands behind that
+
+-- the prediction of a macroblock
+abbrev pub predicted : MbKind → Bool → Mb → Mb
+predicted kind ref0 m = record (with_prediction kind ref0 m) { t8 = is_i_nxn kind && m.t8 }
+
+kind_of : (shape : SliceShape) (kind : MbKind) (ref0 : Bool) (bound : ℕ) (m : Mb) → IsLayer shape kind ref0 false bound m → m.kind ≡ kind
+kind_of shape kind ref0 bound m is = ap (λ (x : Mb). x.kind) is.absent
+
+-- transform_size_8x8_flag of a macroblock of this type
+may_be_set : (shape : SliceShape) (kind : MbKind) (ref0 : Bool) (bound : ℕ) (m : Mb) → IsLayer shape kind ref0 false bound m → m.t8 ≡ true → (shape.t8_mode && (is_i_nxn kind || (not (m.pattern.luma == 0) && takes_t8 shape.direct8 kind m.subs))) ≡ true
+may_be_set shape kind ref0 bound m is set =
+    let P : MbKind → Type 0 = λ k. (shape.t8_mode && (is_i_nxn k || (not (m.pattern.luma == 0) && takes_t8 shape.direct8 k m.subs))) ≡ true in
+    subst P (kind_of shape kind ref0 bound m is) (is.t8 set)
+
+pub prediction_of_layer : (shape : SliceShape) (kind : MbKind) (ref0 : Bool) (bound : ℕ) (m : Mb) → IsLayer shape kind ref0 false bound m → IsPrediction shape kind ref0 (predicted kind ref0 m)
+prediction_of_layer shape kind ref0 bound m is = record {
+  absent = refl;
+  intra = record {
+    t8 = flag_first shape.t8_mode (is_i_nxn kind) (not (m.pattern.luma == 0) && takes_t8 shape.direct8 kind m.subs) m.t8 (may_be_set shape kind ref0 bound m is);
+    modes = modes_by_flag (is_i_nxn kind) (is_i_nxn kind && m.t8) m.t8 m.modes refl is.modes;
+    chroma_mode = is.chroma_mode;
+  };
+  inter = inter_of_lists kind ref0 (active_refs shape (predicted kind ref0 m)) (predicted kind ref0 m) m
+      (subst (λ a. IsInter kind ref0 a m) (active_in_frame shape m (ap (λ (x : Mb). x.field) is.absent) ∙ sym (active_in_frame shape (predicted kind ref0 m) refl)) is.inter);
 }
 
--- the whole text, where what it depends on is known under other names
-pub layer_text-as : (around : Around) (mb : Mb) (b s : Bool) (cm : ℕ) (delta : ℤ) → b ≡ is_i_nxn mb.kind → s ≡ sends_qp_delta mb.kind mb.pattern → cm ≡ mb.chroma_mode → delta ≡ mb.qp_delta
-    → when_text b modes_text mb.modes ++ (ue cm ++ (when_text b pattern_text mb.pattern ++ (when_text s se delta ++ t4 around mb.kind mb))) ≡ layer_text around mb.kind mb
+same_flag_text : (mode nxn t8 : Bool) → when_text (mode && nxn) flag_text t8 ≡ when_text (mode && nxn) flag_text (nxn && t8)
+same_flag_text true true t8 = refl
+same_flag_text true false t8 = refl
+same_flag_text false nxn t8 = refl
+
+same_modes_text : (nxn t8 : Bool) (modes : List ℕ) → when_text nxn (modes_text t8) modes ≡ when_text nxn (modes_text (nxn && t8)) modes
+same_modes_text true t8 modes = refl
+same_modes_text false t8 modes = refl
+
+pub prediction_text_of : (shape : SliceShape) (kind : MbKind) (ref0 : Bool) (bound : ℕ) (m : Mb) → IsLayer shape kind ref0 false bound m → prediction_text shape kind ref0 m ≡ prediction_text shape kind ref0 (predicted kind ref0 m)
+prediction_text_of shape kind ref0 bound m is =
+    let x = predicted kind ref0 m in
+    let active : active_refs shape m ≡ active_refs shape x = active_in_frame shape m (ap (λ (y : Mb). y.field) is.absent) ∙ sym (active_in_frame shape x refl) in
+    let inter : inter_text kind ref0 (active_refs shape m) m ≡ inter_text kind ref0 (active_refs shape x) x = ap (λ a. inter_text kind ref0 a m) active ∙ sym (text_of_lists kind ref0 (active_refs shape x) x m) in
+    let end : List Bool = when_text (is_intra kind) ue m.chroma_mode in
+    ap (λ t. (t ++ (when_text (is_i_nxn kind) (modes_text m.t8) m.modes ++ end)) ++ inter_text kind ref0 (active_refs shape m) m) (same_flag_text shape.t8_mode (is_i_nxn kind) m.t8)
+    ∙ ap (λ t. (when_text (sends_t8_first shape kind) flag_text (is_i_nxn kind && m.t8) ++ (t ++ end)) ++ inter_text kind ref0 (active_refs shape m) m) (same_modes_text (is_i_nxn kind) m.t8 m.modes)
+    ∙ ap (λ t. intra_text shape kind x ++ t) inter
+
+-- what is known of the macroblock behind its prediction
+abbrev pub L1 : SliceShape → MbKind → Bool → ℕ → Mb → Mb → Type 0
+L1 shape kind ref0 bound old m = IsLayer shape kind ref0 false bound m × (predicted kind ref0 m ≡ old)
+
+coding_of : (shape : SliceShape) (kind : MbKind) (ref0 : Bool) (bound : ℕ) (m : Mb) → IsLayer shape kind ref0 false bound m → C0 shape bound (predicted kind ref0 m) m
+coding_of shape kind ref0 bound m is = (
+  record {
+    pattern = is.pattern;
+    t8 = flag_last shape.t8_mode (is_i_nxn kind) (not (m.pattern.luma == 0) && takes_t8 shape.direct8 kind m.subs) m.t8 (may_be_set shape kind ref0 bound m is);
+    qp_delta = is.qp_delta;
+    residual = is.residual;
+  },
+  is.absent,
+)
+
+from_layer : (shape : SliceShape) (kind : MbKind) (ref0 : Bool) (bound : ℕ) (old m : Mb) → L1 shape kind ref0 bound old m → C0 shape bound old m
+from_layer shape kind ref0 bound old m q = subst (λ (x : Mb). C0 shape bound x m) q.1 (coding_of shape kind ref0 bound m q.0)
+
+-- of the prediction a and what stands behind it
+joined : (shape : SliceShape) (kind : MbKind) (ref0 : Bool) (bound : ℕ) (a m : Mb) → IsPrediction shape kind ref0 (with_prediction kind ref0 a) → IsCoding shape (with_prediction kind ref0 a) bound (with_coding (with_prediction kind ref0 a) m)
+    → L1 shape kind ref0 bound (with_prediction kind ref0 a) (with_coding (with_prediction kind ref0 a) m)
+joined shape kind ref0 bound a m p q =
+    let behind : Bool = not (m.pattern.luma == 0) && takes_t8 shape.direct8 kind a.subs in
+    let set = flags shape.t8_mode (is_i_nxn kind) behind a.t8 m.t8 (apart m.pattern.luma shape.direct8 kind a.subs) p.intra.t8 q.t8 in
+    let R : Bool → Mb = λ b. record (with_prediction kind ref0 a) { t8 = b } in (
+      record {
+        absent = refl;
+        t8 = set.0;
+        modes = flag_by_modes (is_i_nxn kind) a.t8 m.t8 a.modes set.1 p.intra.modes;
+        chroma_mode = p.intra.chroma_mode;
+        inter = inter_of_lists kind ref0 (active_refs shape (with_prediction kind ref0 a)) (with_coding (with_prediction kind ref0 a) m) (with_prediction kind ref0 a) p.inter;
+        pattern = q.pattern;
+        qp_delta = q.qp_delta;
+        residual = q.residual;
+      },
+      ap R set.1,
+    )
+
+to_layer : (shape : SliceShape) (kind : MbKind) (ref0 : Bool) (bound : ℕ) (old m : Mb) → IsPrediction shape kind ref0 old → C0 shape bound old m → L1 shape kind ref0 bound old m
+to_layer shape kind ref0 bound old m p q =
+    let e : old ≡ with_prediction kind ref0 old = p.absent in
+    let a : Mb = with_prediction kind ref0 old in
+    let same : m ≡ with_coding a m = q.1 ∙ ap (λ x. with_coding x m) e in
+    let coding : IsCoding shape a bound (with_coding a m) = subst (λ (x : Mb). IsCoding shape a bound x) same (subst (λ (x : Mb). IsCoding shape x bound m) e q.0) in
+    let both = joined shape kind ref0 bound old m (subst (IsPrediction shape kind ref0) e p) coding in
+    subst (λ (x : Mb). L1 shape kind ref0 bound x m) (sym e) (subst (λ (x : Mb). L1 shape kind ref0 bound a x) (sym same) both)
+
+-- ---- reading
+
+pub after_prediction : (shape : SliceShape) (around : Around) (kind : MbKind) (ref0 : Bool) (bound : ℕ) → HasFewRefs shape → (old : Mb) (left mid : List Bool) → IsPrediction shape kind ref0 old × (left ≡ prediction_text shape kind ref0 old ++ mid)
+    → (r : Option Mb) (rest : List Bool) → Reads (C0 shape bound old) (coding_text shape around old.kind) mid r rest → Reads (IsLayer shape kind ref0 false bound) (layer_text shape around kind ref0) left r rest
 unfolding layer_text
-layer_text-as around mb b s cm delta e f g h =
-    let T : Bool → Bool → ℕ → ℤ → List Bool = λ b s cm delta. when_text b modes_text mb.modes ++ (ue cm ++ (when_text b pattern_text mb.pattern ++ (when_text s se delta ++ t4 around mb.kind mb))) in
-    ap (λ x. T x s cm delta) e ∙ ap (λ x. T (is_i_nxn mb.kind) x cm delta) f ∙ ap (λ x. T (is_i_nxn mb.kind) (sends_qp_delta mb.kind mb.pattern) x delta) g
-    ∙ ap (T (is_i_nxn mb.kind) (sends_qp_delta mb.kind mb.pattern) mb.chroma_mode) h
+after_prediction shape around kind ref0 bound refs old left mid read r rest h =
+    let e : old.kind ≡ kind = ap (λ (x : Mb). x.kind) read.0.absent in
+    Reads-part (IsLayer shape kind ref0 false bound) (IsPrediction shape kind ref0) (prediction_text shape kind ref0) (predicted kind ref0) (prediction_text shape kind ref0) (coding_text shape around kind)
+    (IsPrefixFree-prediction shape kind ref0 refs) (prediction_of_layer shape kind ref0 bound) (prediction_text_of shape kind ref0 bound) old left mid read r rest
+    (Reads-as (C0 shape bound old) (L1 shape kind ref0 bound old) (coding_text shape around old.kind) (coding_text shape around kind) (λ m. to_layer shape kind ref0 bound old m read.0) (from_layer shape kind ref0 bound old)
+    (λ m q. ap (λ k. coding_text shape around k m) e) mid r rest h)
+
+pub no_prediction : (shape : SliceShape) (around : Around) (kind : MbKind) (ref0 : Bool) (bound : ℕ) (left mid rest : List Bool) → Reads (IsPrediction shape kind ref0) (prediction_text shape kind ref0) left None mid → Reads (IsLayer shape kind ref0 false bound) (layer_text shape around kind ref0) left None rest
+unfolding layer_text
+no_prediction shape around kind ref0 bound left mid rest none =
+    Reads-no_part (IsLayer shape kind ref0 false bound) (IsPrediction shape kind ref0) (prediction_text shape kind ref0) (predicted kind ref0) (prediction_text shape kind ref0) (coding_text shape around kind)
+    (prediction_of_layer shape kind ref0 bound) (prediction_text_of shape kind ref0 bound) left mid rest none
+
+-- ---- no text begins another one
+
+pub IsPrefixFree-layer : (shape : SliceShape) (around : Around) (kind : MbKind) (ref0 : Bool) (bound : ℕ) → HasFewRefs shape → bound ≤ 20 → IsPrefixFree (IsLayer shape kind ref0 false bound) (layer_text shape around kind ref0)
+unfolding layer_text
+IsPrefixFree-layer shape around kind ref0 bound refs within =
+    IsPrefixFree-part (IsLayer shape kind ref0 false bound) (IsPrediction shape kind ref0) (prediction_text shape kind ref0) (predicted kind ref0) (prediction_text shape kind ref0) (coding_text shape around kind)
+    (IsPrefixFree-prediction shape kind ref0 refs) (prediction_of_layer shape kind ref0 bound) (prediction_text_of shape kind ref0 bound)
+    (λ old is v w x y p q e.
+    let k : old.kind ≡ kind = ap (λ (m : Mb). m.kind) is.absent in
+    let T : MbKind → Mb → List Bool = λ z m. coding_text shape around z m in
+    IsPrefixFree-coding shape around bound old within v w x y (from_layer shape kind ref0 bound old v p) (from_layer shape kind ref0 bound old w q)
+    (ap (λ z. T z v ++ x) k ∙ e ∙ ap (λ z. T z w ++ y) (sym k)))
+
+-- ---- writing
+
+intra_flag : (mode nxn some t8 : Bool) → (t8 ≡ true → (mode && (nxn || (some && false))) ≡ true) → IsWhen (mode && nxn) false IsFlag t8
+intra_flag true true some t8 h = tt
+intra_flag mode nxn some false h = absent (mode && nxn)
+  where
+    absent : (b : Bool) → IsWhen b false IsFlag false
+    absent true = tt
+    absent false = refl
+intra_flag true false true true h = absurd (let e = h refl in cc)
+intra_flag true false false true h = absurd (let e = h refl in cc)
+intra_flag false nxn some true h = absurd (let e = h refl in cc)
+
+intra_t8 : (shape : SliceShape) (kind : MbKind) (m : Mb) → is_intra kind ≡ true → (m.t8 ≡ true → (shape.t8_mode && (is_i_nxn kind || (not (m.pattern.luma == 0) && takes_t8 shape.direct8 kind m.subs))) ≡ true) → IsWhen (sends_t8_first shape kind) false IsFlag m.t8
+intra_t8 shape (Intra n) m e h = intra_flag shape.t8_mode (is_i_nxn (Intra n)) (not (m.pattern.luma == 0)) m.t8 h
+intra_t8 shape kinds.Skip m e h = absurd cc
+intra_t8 shape (kinds.P n) m e h = absurd cc
+intra_t8 shape (kinds.B n) m e h = absurd cc
+
+pub intra_of_layer : (shape : SliceShape) (kind : MbKind) (ref0 : Bool) (bound : ℕ) (m : Mb) → IsLayer shape kind ref0 false bound m → is_intra kind ≡ true → IsIntra shape kind m
+intra_of_layer shape kind ref0 bound m is intra = record { t8 = intra_t8 shape kind m intra (may_be_set shape kind ref0 bound m is); modes = is.modes; chroma_mode = is.chroma_mode }
+
+pub inter_of_layer : (shape : SliceShape) (kind : MbKind) (ref0 : Bool) (bound : ℕ) (m : Mb) → IsLayer shape kind ref0 false bound m → IsInter kind ref0 shape.refs m
+inter_of_layer shape kind ref0 bound m is = refs_by_inter kind ref0 shape m (subst (λ a. IsInter kind ref0 a m) (active_in_frame shape m (ap (λ (x : Mb). x.field) is.absent)) is.inter)
+
+pub coding_of_layer : (shape : SliceShape) (bound : ℕ) (m : Mb) → IsLayer shape m.kind m.ref0 false bound m → IsCoding shape m bound m
+coding_of_layer shape bound m is = record { pattern = is.pattern; t8 = kept (sends_t8_last shape m.kind m) m.t8; qp_delta = is.qp_delta; residual = is.residual }
+  where
+    kept : (b t8 : Bool) → IsWhen b t8 IsFlag t8
+    kept true t8 = tt
+    kept false t8 = refl
+
+pub written_intra : (shape : SliceShape) (m : Mb) → is_intra m.kind ≡ true → intra_text shape m.kind m ≡ prediction_text shape m.kind m.ref0 m
+written_intra shape m intra = sym (ap (λ t. intra_text shape m.kind m ++ t) (no_inter_text m.kind m.ref0 (active_refs shape m) m (intra_sends m.kind intra)) ∙ append-nil (intra_text shape m.kind m))
+
+pub written_inter : (shape : SliceShape) (m : Mb) → is_intra m.kind ≡ false → m.field ≡ false → inter_text m.kind m.ref0 shape.refs m ≡ prediction_text shape m.kind m.ref0 m
+written_inter shape m other frame =
+    text_by_refs m.kind m.ref0 shape m ∙ ap (λ a. inter_text m.kind m.ref0 a m) (sym (active_in_frame shape m frame)) ∙ sym (ap (λ t. t ++ inter_text m.kind m.ref0 (active_refs shape m) m) (no_intra_text shape m.kind m other))

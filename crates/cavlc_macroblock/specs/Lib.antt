@@ -1,3 +1,4 @@
-pub mod Counts
-pub mod Residual
 pub mod MacroblockLayer
+pub mod MbType
+pub mod Macroblock
+pub mod Reading

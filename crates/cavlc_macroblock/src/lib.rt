@@ -1,24 +1,20 @@
-//! Macroblocks of I slices in CAVLC behind their mb_type (ITU-T H.264, 7.3.5): prediction modes, coded_block_pattern,
-//! mb_qp_delta and the residual blocks in their order, read and written, with the nC of each block (9.2.1).
-//! I_PCM and the 8x8 transform stand apart.
+//! Macroblocks in CAVLC (ITU-T H.264, 7.3.5), read and written: mb_type, the samples of I_PCM, prediction,
+//! coded_block_pattern, transform_size_8x8_flag, mb_qp_delta and the residual.
 #![tactic(auto)]
 
-mod beyond;
-mod chroma;
-mod counts;
+mod alignment;
+mod coding;
 pub mod laws;
 mod layer;
-mod lists;
-mod luma;
-mod nc;
+mod macroblock;
+mod mb_type;
 mod pattern;
 mod prediction;
-mod residual;
+mod samples;
+mod transform_size;
 
-pub use beyond::is_beyond;
-pub use counts::{Around, Counts, Sides};
-pub use layer::{read_layer, write_layer};
-pub use residual::has_sizes;
+pub use alignment::{read_alignment, write_alignment};
+pub use macroblock::{read_macroblock, write_macroblock};
 
 #[cfg(test)]
 mod tests;

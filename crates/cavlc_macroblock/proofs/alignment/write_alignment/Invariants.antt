@@ -1,0 +1,13 @@
+-- the alignment that is still to be put
+use Rattle.std.proofs.Common.{◌-◌, ◌%◌, length}
+use Rattle.bit_texts.specs.Texts.{Wrote}
+use Rattle.cavlc_macroblock.specs.Macroblock.{alignment}
+use Rattle.cavlc_macroblock.proofs.alignment.write_alignment.Given as goal
+
+abbrev pub invariant-loop-bits : goal.invariant-loop-bits
+invariant-loop-bits g l =
+    let bits = g.B.BitSink.bits in
+    Wrote (bits l.fn.bits) (bits l.bits) (alignment (length (bits l.fn.bits))) (alignment (length (bits l.bits)))
+
+abbrev pub decreases-loop-bits : goal.decreases-loop-bits
+decreases-loop-bits g l = (8 - length (g.B.BitSink.bits l.bits) % 8) % 8

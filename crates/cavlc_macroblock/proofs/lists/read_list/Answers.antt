@@ -1,7 +1,0 @@
-use Rattle.std.proofs.Common.{length}
-use Rattle.cavlc_macroblock.proofs.ResidualLaws.{most_read}
-use Rattle.cavlc_macroblock.proofs.lists.read_list.Goals as goal
-
-pub returns-then-coded-clause-most : goal.returns-then-coded-clause-most
-returns-then-coded-clause-most g c =
-    most_read c.read_levels.result (length c.args.levels.now) c.args.bound _ c.args.nc _ _ _ c.requires.shape c.read_levels.ensures.reads c.read_levels.ensures.total

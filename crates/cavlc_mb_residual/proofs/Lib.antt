@@ -1,0 +1,11 @@
+pub mod Firsts
+pub mod Quarters
+pub mod ResidualLaws
+pub mod Chain
+pub mod ResidualChain
+pub mod CountLaws
+pub mod BeyondLaws
+pub mod Searching
+pub mod ResidualUnique
+pub mod ResidualValid
+pub mod ResidualSearching

@@ -1,0 +1,6 @@
+use Rattle.cavlc_mb_residual.proofs.Firsts.{AreSmall-push}
+use Rattle.cavlc_mb_residual.proofs.luma.write_luma_list.Goals as goal
+
+pub returns-clause-small : goal.returns-clause-small
+returns-clause-small g c =
+    AreSmall-push c.args.counts.now.items _ _ c.push.ensures.items c.requires.small c.count_levels.ensures.most

@@ -1,0 +1,4 @@
+pub mod LumaBlocks
+pub mod Counts
+pub mod Residual
+pub mod MacroblockResidual

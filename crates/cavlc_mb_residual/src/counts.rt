@@ -1,0 +1,202 @@
+ghost use Rattle.std.specs.Prelude.{◌≡◌, ◌<◌, ◌≤◌, [], length, slice_index_or, IfSome};
+ghost use Rattle.cavlc_residual.specs.Block.{total_coeff};
+ghost use Rattle.cavlc_mb_residual.specs.LumaBlocks as lists;
+ghost use Rattle.cavlc_mb_residual.specs.Counts as count;
+
+use crate::transform_8x8::every_fourth;
+use h264_types::Mb;
+
+/// How many levels other than 0 the lists of a macroblock have that are sent of its blocks, as the macroblocks to its
+/// right and below it count them (9.2.1).
+#[derive(Clone, Copy, Debug, PartialEq, Eq)]
+pub struct Counts {
+    /// Of the 4x4 luma blocks, four to a quarter.
+    pub luma: [u8; 16],
+    /// Of the AC blocks of Cb.
+    pub cb: [u8; 4],
+    /// Of those of Cr.
+    pub cr: [u8; 4],
+}
+
+/// What the blocks to the left of a macroblock's first column count, and those above its first row, of one component.
+/// The two of chroma are named twice.
+#[derive(Clone, Copy, Debug, PartialEq, Eq)]
+pub struct Sides {
+    pub left: Option<[u8; 4]>,
+    pub above: Option<[u8; 4]>,
+}
+
+/// What stands around a macroblock, for the nC of its blocks.
+#[derive(Clone, Copy, Debug, PartialEq, Eq)]
+pub struct Around {
+    pub luma: Sides,
+    pub cb: Sides,
+    pub cr: Sides,
+}
+
+/// TotalCoeff: how many levels aren't 0.
+pub fn count_levels(levels: &[i32]) -> u8
+    requires { length levels.now ≤ 16 }
+    ensures value { result ≡ total_coeff levels.now }
+    ensures most { result ≤ 16 }
+{
+    let mut count = 0u8;
+    for level in levels {
+        count += u8::from(*level != 0);
+    }
+    count
+}
+
+impl Counts {
+    /// What the blocks of a macroblock count: in I_PCM 16, in I_16x16 the levels of their AC blocks alone.
+    #[tactic(auto, unfolding(crate::specs::LumaBlocks::sixteen))]
+    pub fn of(mb: &Mb) -> Counts
+        ensures value { result ≡ count.counts_of mb.now }
+        ensures small { count.AreSmallCounts result }
+    {
+        if mb.kind.is_i_pcm() {
+            return Counts {
+                luma: [16; 16],
+                cb: [16; 4],
+                cr: [16; 4],
+            };
+        }
+        Counts {
+            luma: luma_counts(mb),
+            cb: chroma_counts(&mb.chroma_ac[0]),
+            cr: chroma_counts(&mb.chroma_ac[1]),
+        }
+    }
+}
+
+/// TotalCoeff of the list that is sent of luma block n.
+fn luma_count(mb: &Mb, n: u8) -> u8
+    requires { n < 16 }
+    ensures value { result ≡ total_coeff (lists.sent_block mb.now n) }
+    ensures most { result ≤ 16 }
+{
+    if mb.t8 {
+        return count_levels(&every_fourth(&mb.luma[usize::from(n / 4)], usize::from(n % 4)));
+    }
+    count_levels(mb.block(n))
+}
+
+/// TotalCoeff of each luma block.
+fn luma_counts(mb: &Mb) -> [u8; 16]
+    ensures value { result ≡ lists.sixteen (λ n. total_coeff (lists.sent_block mb.now n)) }
+    ensures small { count.AreSmall result }
+{
+    let mut counts = [0; 16];
+    for n in 0..16u8 {
+        counts[usize::from(n)] = luma_count(mb, n);
+    }
+    counts
+}
+
+/// TotalCoeff of each AC block of a chroma component.
+fn chroma_counts(blocks: &[[i32; 15]; 4]) -> [u8; 4]
+    ensures value { result ≡ lists.four (λ n. total_coeff (slice_index_or blocks.now n [])) }
+    ensures small { count.AreSmall result }
+{
+    [
+        count_levels(&blocks[0]),
+        count_levels(&blocks[1]),
+        count_levels(&blocks[2]),
+        count_levels(&blocks[3]),
+    ]
+}
+
+impl Around {
+    /// What stands around a macroblock outside MBAFF, from what the macroblocks to its left and above it count.
+    pub fn beside(left: Option<Counts>, above: Option<Counts>) -> Around
+        requires left { IfSome left count.AreSmallCounts }
+        requires above { IfSome above count.AreSmallCounts }
+        ensures value { result ≡ count.around_from left above }
+        ensures small { count.IsAround result }
+    {
+        Around {
+            luma: luma_sides(left, above),
+            cb: cb_sides(left, above),
+            cr: cr_sides(left, above),
+        }
+    }
+}
+
+/// The counts of the luma blocks to the left and above.
+fn luma_sides(left: Option<Counts>, above: Option<Counts>) -> Sides
+    requires left { IfSome left count.AreSmallCounts }
+    requires above { IfSome above count.AreSmallCounts }
+    ensures value { result ≡ (count.around_from left above).luma }
+    ensures small { count.AreSides result }
+{
+    Sides {
+        left: match left {
+            Some(counts) => Some(four_of(&counts.luma, [5, 7, 13, 15])),
+            None => None,
+        },
+        above: match above {
+            Some(counts) => Some(four_of(&counts.luma, [10, 11, 14, 15])),
+            None => None,
+        },
+    }
+}
+
+/// The counts of the Cb blocks to the left and above.
+fn cb_sides(left: Option<Counts>, above: Option<Counts>) -> Sides
+    requires left { IfSome left count.AreSmallCounts }
+    requires above { IfSome above count.AreSmallCounts }
+    ensures value { result ≡ (count.around_from left above).cb }
+    ensures small { count.AreSides result }
+{
+    Sides {
+        left: match left {
+            Some(counts) => Some(four_of(&counts.cb, [1, 3, 1, 3])),
+            None => None,
+        },
+        above: match above {
+            Some(counts) => Some(four_of(&counts.cb, [2, 3, 2, 3])),
+            None => None,
+        },
+    }
+}
+
+/// The counts of the Cr blocks to the left and above.
+fn cr_sides(left: Option<Counts>, above: Option<Counts>) -> Sides
+    requires left { IfSome left count.AreSmallCounts }
+    requires above { IfSome above count.AreSmallCounts }
+    ensures value { result ≡ (count.around_from left above).cr }
+    ensures small { count.AreSides result }
+{
+    Sides {
+        left: match left {
+            Some(counts) => Some(four_of(&counts.cr, [1, 3, 1, 3])),
+            None => None,
+        },
+        above: match above {
+            Some(counts) => Some(four_of(&counts.cr, [2, 3, 2, 3])),
+            None => None,
+        },
+    }
+}
+
+/// Four of the counts of a component, 0 past their end.
+fn four_of(counts: &[u8], places: [usize; 4]) -> [u8; 4]
+    requires small { count.AreSmall counts.now }
+    ensures value { result ≡ lists.four (λ k. slice_index_or counts.now (slice_index_or places k 0) 0) }
+    ensures small { count.AreSmall result }
+{
+    [
+        count_or_none(counts, places[0]),
+        count_or_none(counts, places[1]),
+        count_or_none(counts, places[2]),
+        count_or_none(counts, places[3]),
+    ]
+}
+
+fn count_or_none(counts: &[u8], place: usize) -> u8
+    requires { count.AreSmall counts.now }
+    ensures value { result ≡ slice_index_or counts.now place 0 }
+    ensures small { result ≤ 16 }
+{
+    counts.get(place).copied().unwrap_or(0)
+}
