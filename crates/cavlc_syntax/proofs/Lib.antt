@@ -1,9 +1,9 @@
-mod SampleBytes
-mod Alignment
 pub mod Rows
-pub mod Layers
-pub mod Texts
+mod Ends
 pub mod Members
+mod TextParts
+mod Runs
+pub mod Texts
 pub mod Known
 pub mod Put
 pub mod Decided

@@ -1,46 +1,66 @@
 -- Each step of a writer keeps the text.
-use Rattle.std.proofs.Common.{◌≡◌, ℕ, ◌+◌, Bool, List, [], ◌∷◌, ◌++◌, length, sym, ap, subst, ◌∙◌, append_assoc, append-nil, length-append, arith}
+use Rattle.std.proofs.Common.{◌≡◌, ℕ, ◌+◌, Bool, true, false, List, [], ◌∷◌, ◌++◌, length, sym, ap, subst, ◌∙◌, append_assoc, append-nil, length-append, arith}
 use Rattle.std.specs.Prelude.{All}
 use Rattle.std.proofs.lemmas.List.Elements.{All-head, All-tail}
 use Rattle.bit_texts.specs.Texts.{Appended}
+use Rattle.h264_types.specs.Kind.{is_skip}
+use Rattle.h264_types.specs.Valid.{IsMacroblock}
 use Rattle.h264_types.specs.declared.macroblock.Mb.{Mb}
 use Rattle.h264_types.specs.declared.slice_shape.SliceShape.{SliceShape}
-use Rattle.h264_types.specs.Valid.{IsMacroblock}
-use Rattle.cavlc_macroblock.specs.MacroblockLayer.{HasSizes, is_beyond_mb}
-use Rattle.cavlc_macroblock.specs.declared.counts.Around.{Around}
-use Rattle.cavlc_macroblock.specs.declared.counts.Counts.{Counts}
-use Rattle.cavlc_syntax.specs.Macroblock.{macroblock_text}
-use Rattle.cavlc_syntax.specs.Reading.{IsRead}
+use Rattle.cavlc_mb_residual.specs.MacroblockResidual.{HasSizes, is_beyond_mb}
+use Rattle.cavlc_mb_residual.specs.declared.counts.Around.{Around}
+use Rattle.cavlc_mb_residual.specs.declared.counts.Counts.{Counts}
+use Rattle.cavlc_macroblock.specs.Reading.{IsSent}
 use Rattle.cavlc_syntax.specs.Row.{IsRow}
 use Rattle.cavlc_syntax.specs.Standing.{BeginsText}
-use Rattle.cavlc_syntax.specs.SliceText.{IsBuilt, IsNotBeyond, prefix_bound, stop_text, text_after, slice_text}
+use Rattle.cavlc_syntax.specs.SliceText.{IsNotBeyond, prefix_bound, stop_text, run_text, last_run_text, coded_text, put_text, text_after, slice_text}
 use Rattle.cavlc_syntax.specs.Written.{Writes, BeginsSlice}
-use Rattle.cavlc_syntax.proofs.Members.{valid_read}
-use Rattle.cavlc_syntax.proofs.Texts.{around_next, text_end, text_next}
+use Rattle.cavlc_macroblock.proofs.ValidLaws.{skipped_levels}
+use Rattle.cavlc_syntax.proofs.Members.{skipped_of, sent_20}
+use Rattle.cavlc_syntax.proofs.TextParts.{around_next, text_end, text_skip, text_coded}
 
--- the text of the next macroblock
-abbrev pub put_text : SliceShape → List Mb → List Bool → Mb → List Bool
-put_text shape done bits mb = macroblock_text (around_next shape done) (length bits) mb
+-- ---- what is put
 
-pub put_one : (kept : SliceShape) (count : ℕ) (row row' : List Counts) (bits new : List Bool) (shape : SliceShape) (before : List Bool) (done : List Mb) (mb : Mb) → Writes kept count row bits shape before done
-    → Appended bits new (put_text shape done bits mb) → IsRow shape row' (done ++ mb ∷ []) → Writes kept (count + 1) row' new shape before (done ++ mb ∷ [])
-put_one kept count row row' bits new shape before done mb w put row_is =
-    let here = put_text shape done bits mb in
-    let far : length new ≡ length bits + length here = ap length put.is ∙ length-append bits here in
+pub put_skipped : (kept : SliceShape) (count : ℕ) (row row' : List Counts) (run : ℕ) (bits : List Bool) (shape : SliceShape) (before : List Bool) (done : List Mb) (mb : Mb) → Writes kept count row run bits shape before done
+    → is_skip mb.kind ≡ true → IsRow shape row' (done ++ mb ∷ []) → Writes kept (count + 1) row' (run + 1) bits shape before (done ++ mb ∷ [])
+put_skipped kept count row row' run bits shape before done mb w skips row_is = record {
+  of = w.of;
+  built = w.built;
+  counted = omega (arith, w.counted, length-append done (mb ∷ []));
+  row_is = row_is;
+  few = omega (arith, w.few);
+  text = λ tail.
+      ap (λ l. before ++ slice_text shape (length before) l) (append_assoc done (mb ∷ []) tail) ∙ w.text (mb ∷ tail) ∙ ap (λ l. bits ++ l) (text_skip shape (length bits) done run mb tail skips);
+}
+
+pub put_one : (kept : SliceShape) (count : ℕ) (row row' : List Counts) (run : ℕ) (bits new : List Bool) (shape : SliceShape) (before : List Bool) (done : List Mb) (mb : Mb) → Writes kept count row run bits shape before done
+    → is_skip mb.kind ≡ false → Appended bits new (put_text shape (around_next shape done) (length bits) run mb) → IsRow shape row' (done ++ mb ∷ []) → Writes kept (count + 1) row' 0 new shape before (done ++ mb ∷ [])
+put_one kept count row row' run bits new shape before done mb w sent put row_is =
+    let first = run_text shape.kind run in
+    let here = coded_text shape (length bits + length first) done mb in
+    let far : length new ≡ length bits + length first + length here = omega (arith, ap length put.is, length-append bits (first ++ here), length-append first here) in
+    let rest : ℕ → List Mb → List Bool = λ n tail. text_after shape n (done ++ mb ∷ []) 0 tail in
     record {
       of = w.of;
       built = w.built;
       counted = omega (arith, w.counted, length-append done (mb ∷ []));
       row_is = row_is;
+      few = omega arith;
       text = λ tail.
           ap (λ l. before ++ slice_text shape (length before) l) (append_assoc done (mb ∷ []) tail) ∙ w.text (mb ∷ tail)
-          ∙ ap (λ l. bits ++ l) (text_next shape (length bits) done mb tail) ∙ sym (append_assoc bits here (text_after shape (length bits + length here) (done ++ mb ∷ []) tail))
-          ∙ ap (λ l. l ++ text_after shape (length bits + length here) (done ++ mb ∷ []) tail) (sym put.is) ∙ ap (λ n. new ++ text_after shape n (done ++ mb ∷ []) tail) (sym far);
+          ∙ ap (λ l. bits ++ l) (text_coded shape (length bits) done run mb tail sent ∙ sym (append_assoc first here (rest (length bits + length first + length here) tail)))
+          ∙ sym (append_assoc bits (first ++ here) (rest (length bits + length first + length here) tail))
+          ∙ ap (λ l. l ++ rest (length bits + length first + length here) tail) (sym put.is) ∙ ap (λ n. new ++ rest n tail) (sym far);
     }
 
-pub put_end : (kept : SliceShape) (count : ℕ) (row : List Counts) (bits new : List Bool) (shape : SliceShape) (before : List Bool) (done : List Mb) → Writes kept count row bits shape before done → Appended bits new (stop_text (length bits)) → new ≡ before ++ slice_text shape (length before) done
-put_end kept count row bits new shape before done w put =
-    put.is ∙ ap (λ l. bits ++ l) (sym (text_end shape (length bits) done)) ∙ sym (w.text []) ∙ ap (λ l. before ++ slice_text shape (length before) l) (append-nil done)
+pub put_end : (kept : SliceShape) (count : ℕ) (row : List Counts) (run : ℕ) (bits mid new : List Bool) (shape : SliceShape) (before : List Bool) (done : List Mb) → Writes kept count row run bits shape before done
+    → Appended bits mid (last_run_text kept.kind run) → Appended mid new (stop_text (length mid)) → new ≡ before ++ slice_text shape (length before) done
+put_end kept count row run bits mid new shape before done w last stop =
+    let end = last_run_text shape.kind run in
+    let put : Appended bits mid end = subst (λ (s : SliceShape). Appended bits mid (last_run_text s.kind run)) w.of last in
+    let far : length mid ≡ length bits + length end = ap length put.is ∙ length-append bits end in
+    stop.is ∙ ap (λ l. l ++ stop_text (length mid)) put.is ∙ append_assoc bits end (stop_text (length mid)) ∙ ap (λ n. bits ++ (end ++ stop_text n)) far ∙ ap (λ l. bits ++ l) (sym (text_end shape (length bits) done run))
+    ∙ sym (w.text []) ∙ ap (λ l. before ++ slice_text shape (length before) l) (append-nil done)
 
 -- ---- a macroblock that may be put
 
@@ -48,28 +68,37 @@ all_last : {A : Type 0} (P : A → Type 0) (xs : List A) (x : A) (ys : List A) �
 all_last P [] x ys h = All-head P x ys h
 all_last P (y ∷ xs) x ys h = all_last P xs x ys (All-tail P y ((xs ++ x ∷ []) ++ ys) h)
 
--- it has a text, whatever the bound
-pub may_read : (shape : SliceShape) (done : List Mb) (mb : Mb) → IsBuilt shape → BeginsSlice shape (done ++ mb ∷ []) → IsRead 20 mb
-may_read shape done mb built begins =
-    valid_read shape mb built (all_last (IsMacroblock shape) done mb begins.0 begins.1.slice.macroblocks) (all_last HasSizes done mb begins.0 begins.1.sizes)
+-- it has a text, whatever the bound, in the shape that the writer keeps
+pub may_sent : (kept : SliceShape) (count : ℕ) (row : List Counts) (run : ℕ) (bits : List Bool) (shape : SliceShape) (before : List Bool) (done : List Mb) (mb : Mb) → Writes kept count row run bits shape before done
+    → BeginsSlice shape (done ++ mb ∷ []) → is_skip mb.kind ≡ false → IsSent kept 20 mb
+may_sent kept count row run bits shape before done mb w begins sent =
+    subst (λ (s : SliceShape). IsSent s 20 mb) (sym w.of)
+    (sent_20 shape mb w.built.built.mbaff sent (all_last (IsMacroblock shape) done mb begins.0 begins.1.slice.macroblocks) (all_last HasSizes done mb begins.0 begins.1.sizes))
+
+-- a skipped one has no level
+pub may_skip : (shape other : SliceShape) (done : List Mb) (mb : Mb) → shape.mbaff ≡ false → BeginsSlice shape (done ++ mb ∷ []) → is_skip mb.kind ≡ true → IsNotBeyond other mb
+may_skip shape other done mb mbaff begins skips =
+    let is = skipped_of shape mb mbaff skips (all_last (IsMacroblock shape) done mb begins.0 begins.1.slice.macroblocks) (all_last HasSizes done mb begins.0 begins.1.sizes) in
+    ap (is_beyond_mb (prefix_bound other)) is.elements ∙ (skipped_levels (prefix_bound other)).1
 
 -- ---- the shape that a writer keeps
 
-kept_row : (kept : SliceShape) (count : ℕ) (row : List Counts) (bits : List Bool) (shape : SliceShape) (before : List Bool) (done : List Mb) → Writes kept count row bits shape before done → IsRow kept row done
-kept_row kept count row bits shape before done w = subst (λ (s : SliceShape). IsRow s row done) (sym w.of) w.row_is
+kept_row : (kept : SliceShape) (count : ℕ) (row : List Counts) (run : ℕ) (bits : List Bool) (shape : SliceShape) (before : List Bool) (done : List Mb) → Writes kept count row run bits shape before done → IsRow kept row done
+kept_row kept count row run bits shape before done w = subst (λ (s : SliceShape). IsRow s row done) (sym w.of) w.row_is
 
 pub put_beyond : (kept shape : SliceShape) (bound : ℕ) (mb : Mb) (b : Bool) → kept ≡ shape → bound ≡ prefix_bound kept → b ≡ is_beyond_mb bound mb → is_beyond_mb (prefix_bound shape) mb ≡ b
 put_beyond kept shape bound mb b of e f = ap (λ (s : SliceShape). is_beyond_mb (prefix_bound s) mb) (sym of) ∙ ap (λ n. is_beyond_mb n mb) (sym e) ∙ sym f
 
-pub put_around : (kept : SliceShape) (count : ℕ) (row : List Counts) (bits : List Bool) (shape : SliceShape) (before : List Bool) (done : List Mb) (around : Around) → Writes kept count row bits shape before done
-    → ((list : List Mb) → count ≡ length list → IsRow kept row list → around ≡ around_next kept list) → around ≡ around_next shape done
-put_around kept count row bits shape before done around w is =
-    is done w.counted (kept_row kept count row bits shape before done w) ∙ ap (λ (s : SliceShape). around_next s done) w.of
+-- the text that is put, in the words of the shape that a writer stands for
+pub put_around : (kept : SliceShape) (count : ℕ) (row : List Counts) (run : ℕ) (bits : List Bool) (shape : SliceShape) (before : List Bool) (done : List Mb) (mb : Mb) (around : Around) → Writes kept count row run bits shape before done
+    → ((list : List Mb) → count ≡ length list → IsRow kept row list → around ≡ around_next kept list) → put_text kept around (length bits) run mb ≡ put_text shape (around_next shape done) (length bits) run mb
+put_around kept count row run bits shape before done mb around w is =
+    ap (λ (a : Around). put_text kept a (length bits) run mb) (is done w.counted (kept_row kept count row run bits shape before done w)) ∙ ap (λ (s : SliceShape). put_text s (around_next s done) (length bits) run mb) w.of
 
-pub put_row : (kept : SliceShape) (count : ℕ) (row row' : List Counts) (bits : List Bool) (shape : SliceShape) (before : List Bool) (done : List Mb) (mb : Mb) → Writes kept count row bits shape before done
+pub put_row : (kept : SliceShape) (count : ℕ) (row row' : List Counts) (run : ℕ) (bits : List Bool) (shape : SliceShape) (before : List Bool) (done : List Mb) (mb : Mb) → Writes kept count row run bits shape before done
     → ((list : List Mb) → count ≡ length list → IsRow kept row list → IsRow kept row' (list ++ mb ∷ [])) → IsRow shape row' (done ++ mb ∷ [])
-put_row kept count row row' bits shape before done mb w is =
-    subst (λ (s : SliceShape). IsRow s row' (done ++ mb ∷ [])) w.of (is done w.counted (kept_row kept count row bits shape before done w))
+put_row kept count row row' run bits shape before done mb w is =
+    subst (λ (s : SliceShape). IsRow s row' (done ++ mb ∷ [])) w.of (is done w.counted (kept_row kept count row run bits shape before done w))
 
 -- what begins a list that has a text needs no longer level_prefix
 pub begins_within : (shape : SliceShape) (done : List Mb) (mb : Mb) → BeginsText shape (done ++ mb ∷ []) → IsNotBeyond shape mb

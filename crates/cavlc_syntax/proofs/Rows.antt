@@ -10,9 +10,9 @@ use Rattle.std.proofs.lemmas.Bool.Decides.{nat_tests}
 use Rattle.h264_types.specs.Slice.{left_number, above_number}
 use Rattle.h264_types.specs.declared.macroblock.Mb.{Mb}
 use Rattle.h264_types.specs.declared.slice_shape.SliceShape.{SliceShape}
-use Rattle.cavlc_macroblock.specs.Counts.{AreSmallCounts, counts_of, counts_at, around_of, around_from}
-use Rattle.cavlc_macroblock.specs.declared.counts.Counts.{Counts}
-use Rattle.cavlc_macroblock.proofs.CountLaws.{around_is}
+use Rattle.cavlc_mb_residual.specs.Counts.{AreSmallCounts, counts_of, counts_at, around_of, around_from}
+use Rattle.cavlc_mb_residual.specs.declared.counts.Counts.{Counts}
+use Rattle.cavlc_mb_residual.proofs.CountLaws.{around_is}
 use Rattle.h264_types.proofs.SliceLaws.{left_number-before, above_number-before}
 use Rattle.cavlc_syntax.specs.Row.{IsRow}
 

@@ -1,4 +1,3 @@
-pub mod Macroblock
 pub mod SliceText
 pub mod Reading
 pub mod Row

@@ -1,45 +1,39 @@
--- Reading a macroblock from the bits. These are inverse to the texts.
-use Rattle.std.specs.Prelude.{◌≡◌, ◌≢◌, ◌⊎◌, ◌||◌, ℕ, zero, suc, ◌-◌, ◌%◌, if◌then◌else◌, Bool, true, false, List, ◌++◌, Option, Some, None}
-use Rattle.bit_texts.specs.Cursor.{Cursor, Takes}
-use Rattle.bit_texts.specs.Readings.{◌>>=◌, many_at}
-use Rattle.cavlc_macroblock.specs.MacroblockLayer.{IsLayer}
-use Rattle.cavlc_macroblock.specs.declared.counts.Around.{Around}
-use Rattle.exp_golomb.specs.Code.{Flag, U}
+-- Reading mb_skip_run and the end of a slice. These are inverse to the texts.
+use Rattle.std.specs.Prelude.{◌≡◌, ◌⊎◌, ℕ, if◌then◌else◌, true, Option, Some, None}
+use Rattle.bit_texts.specs.Cursor.{Cursor}
+use Rattle.bit_texts.specs.Readings.{◌>>=◌}
+use Rattle.exp_golomb.specs.Code.{Flag, Ue}
 use Rattle.exp_golomb.specs.Element.{element_at}
+use Rattle.h264_types.specs.Macroblock.{no_elements}
+use Rattle.h264_types.specs.Valid.{is_kind_in}
 use Rattle.h264_types.specs.declared.macroblock.Mb.{Mb}
-use Rattle.h264_types.specs.Kind.{is_i_nxn, is_i_16x16}
-use Rattle.cavlc_syntax.specs.Macroblock.{IsIPcm, i_pcm, macroblock_text}
-
--- that many zero bits
-unfoldable pub zeros_at : ℕ → Cursor → Option (Unit {0} × Cursor)
-zeros_at zero c = Some (tt, c)
-zeros_at (suc n) c = element_at Flag c >>= λ bit. if bit.0 then None else zeros_at n bit.1
-
--- zero bits up to the byte boundary
-unfoldable pub alignment_at : Cursor → Option (Unit {0} × Cursor)
-alignment_at c = zeros_at ((8 - c.taken % 8) % 8) c
-
--- the samples, 8 bits each
-unfoldable pub samples_at : Cursor → Option (List ℕ × Cursor)
-samples_at c = many_at 384 (element_at (U 8)) c
-
--- an I_PCM macroblock behind its mb_type
-unfoldable pub pcm_at : Cursor → Option (Mb × Cursor)
-pcm_at c =
-    alignment_at c >>= λ aligned.
-    samples_at aligned.1 >>= λ samples.
-    Some (i_pcm samples.0, samples.1)
+use Rattle.h264_types.specs.declared.macroblock.MbKind.TheVariants.{Skip}
+use Rattle.h264_types.specs.declared.slice_shape.SliceShape.{SliceShape}
+use Rattle.h264_types.specs.declared.slice_shape.SliceKind.{SliceKind}
+use Rattle.h264_types.specs.declared.slice_shape.SliceKind.TheVariants as slices
+use Rattle.cavlc_macroblock.specs.Reading.{IsSent, alignment_at}
+use Rattle.cavlc_syntax.specs.SliceText.{prefix_bound}
 
 -- the stop bit, and zero bits up to the byte boundary
 unfoldable pub stop_at : Cursor → Option (Unit {0} × Cursor)
 stop_at c = element_at Flag c >>= λ bit. if bit.0 then alignment_at bit.1 else None
 
--- the macroblocks that have a text with no level_prefix above the bound, by their types: I_PCM, I_NxN and I_16x16
-abbrev pub IsRead : ℕ → Mb → Type 0
-IsRead bound mb = IsIPcm mb ⊎ (((is_i_nxn mb.kind || is_i_16x16 mb.kind) ≡ true) × IsLayer mb.kind false bound mb)
+-- How many skipped macroblocks come next: as many as are left of an mb_skip_run that was read, else the mb_skip_run that
+-- stands here, of at most `room`. I slices have none.
+unfoldable pub run_at : SliceKind → ℕ → Option ℕ → Cursor → Option (ℕ × Cursor)
+run_at kind room (Some left) c = Some (left, c)
+run_at slices.I room None c = Some (0, c)
+run_at slices.P room None c = element_at (Ue room) c
+run_at slices.B room None c = element_at (Ue room) c
 
--- what was answered at a place: the macroblock that was filled in, whose text was taken, or that no macroblock's text
--- begins the bits left
-abbrev pub ReadsMacroblock : Around → ℕ → Cursor → Option (Unit {0}) → Mb → Cursor → Type 0
-ReadsMacroblock around bound before (Some x) mb after = IsRead bound mb × Takes (macroblock_text around before.taken mb) before after
-ReadsMacroblock around bound before None mb after = (v : Mb) (more : List Bool) → IsRead bound v → before.left ≢ macroblock_text around before.taken v ++ more
+-- a skipped macroblock, which I slices don't have
+abbrev pub skipped : Mb
+skipped = no_elements Skip
+
+pub record IsSkipped (shape : SliceShape) (mb : Mb) : Type 0 where
+  pub elements : mb ≡ skipped
+  pub kind : is_kind_in shape.kind Skip ≡ true
+
+-- the macroblocks of the lists that have a text
+abbrev pub IsRead : SliceShape → Mb → Type 0
+IsRead shape mb = IsSent shape (prefix_bound shape) mb ⊎ IsSkipped shape mb

@@ -2,8 +2,8 @@
 use Rattle.std.specs.Prelude.{◌≡◌, ℕ, ◌+◌, ◌*◌, ◌%◌, ◌<◌, ◌≤◌, false, Some, List, length, slice_get}
 use Rattle.h264_types.specs.declared.macroblock.Mb.{Mb}
 use Rattle.h264_types.specs.declared.slice_shape.SliceShape.{SliceShape}
-use Rattle.cavlc_macroblock.specs.Counts.{counts_at}
-use Rattle.cavlc_macroblock.specs.declared.counts.Counts.{Counts}
+use Rattle.cavlc_mb_residual.specs.Counts.{counts_at}
+use Rattle.cavlc_mb_residual.specs.declared.counts.Counts.{Counts}
 
 -- a picture of macroblocks in rows, within the limits
 pub record IsInRows (shape : SliceShape) : Type 0 where

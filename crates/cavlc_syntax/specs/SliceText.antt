@@ -1,25 +1,29 @@
 -- The data of a slice, and the lists of macroblocks that have a text (ITU-T H.264, 7.3.4).
-use Rattle.std.specs.Prelude.{◌≡◌, ℕ, ◌+◌, ◌-◌, ◌%◌, ◌==◌, if◌then◌else◌, Bool, true, false, List, [], ◌∷◌, ◌++◌, length, replicate, All}
-use Rattle.cavlc_macroblock.specs.Counts.{around_of}
-use Rattle.cavlc_macroblock.specs.MacroblockLayer.{HasSizes, is_beyond_mb}
+use Rattle.std.specs.Prelude.{◌≡◌, ℕ, ◌+◌, ◌-◌, ◌*◌, ◌%◌, ◌≤◌, ◌==◌, if◌then◌else◌, Bool, true, false, List, [], ◌∷◌, ◌++◌, length, replicate, All}
+use Rattle.exp_golomb.specs.Code.{ue}
+use Rattle.cavlc_mb_residual.specs.Counts.{around_of}
+use Rattle.cavlc_mb_residual.specs.declared.counts.Around.{Around}
+use Rattle.cavlc_mb_residual.specs.MacroblockResidual.{HasSizes, is_beyond_mb}
+use Rattle.cavlc_macroblock.specs.MacroblockLayer.{HasFewRefs}
+use Rattle.cavlc_macroblock.specs.Macroblock.{macroblock_text}
+use Rattle.h264_types.specs.Kind.{is_skip}
 use Rattle.h264_types.specs.declared.macroblock.Mb.{Mb}
 use Rattle.h264_types.specs.declared.slice_shape.SliceShape.{SliceShape}
+use Rattle.h264_types.specs.declared.slice_shape.SliceKind.{SliceKind}
 use Rattle.h264_types.specs.declared.slice_shape.SliceKind.TheVariants as slices
 use Rattle.h264_types.specs.SliceShape.{IsSliceShape}
 use Rattle.h264_types.specs.Valid.{IsSlice}
-use Rattle.cavlc_syntax.specs.Macroblock.{macroblock_text}
 
--- the slices that are read and written: I slices outside MBAFF, without the 8x8 transform
+-- the slices that are read and written: those outside MBAFF
 pub record IsBuilt (shape : SliceShape) : Type 0 where
-  pub kind : shape.kind ≡ slices.I
   pub mbaff : shape.mbaff ≡ false
-  pub t8_mode : shape.t8_mode ≡ false
 
 pub record IsBuiltShape (shape : SliceShape) : Type 0 where
   pub is_shape : IsSliceShape shape
   pub built : IsBuilt shape
+  pub refs : HasFewRefs shape
 
--- The greatest level_prefix: 15 in Main (9.2.2.1). In High it has no bound of its own, and none above 20 is needed.
+-- The greatest level_prefix: 15 in Main (9.2.2.1, A.2.2). In High it has no bound of its own, and none above 20 is needed.
 abbrev pub prefix_bound : SliceShape → ℕ
 prefix_bound shape = if shape.profile == 77 then 15 else 20
 
@@ -32,9 +36,12 @@ pub record AreOfSlice (shape : SliceShape) (mbs : List Mb) : Type 0 where
 abbrev pub IsNotBeyond : SliceShape → Mb → Type 0
 IsNotBeyond shape mb = is_beyond_mb (prefix_bound shape) mb ≡ false
 
--- the lists of macroblocks that have a text
+-- The lists of macroblocks that have a text, in a picture within the limits: no mb_skip_run is longer than one, and no
+-- reference index is above 31.
 pub record HasText (shape : SliceShape) (mbs : List Mb) : Type 0 where
   pub built : IsBuilt shape
+  pub size : shape.width * shape.height ≤ 139264
+  pub refs : HasFewRefs shape
   pub are : AreOfSlice shape mbs
   pub within : All (IsNotBeyond shape) mbs
 
@@ -42,17 +49,44 @@ pub record HasText (shape : SliceShape) (mbs : List Mb) : Type 0 where
 abbrev pub stop_text : ℕ → List Bool
 stop_text pos = true ∷ replicate (7 - pos % 8) false
 
--- The text of `mbs` behind the macroblocks `before` and `pos` bits, to the end of the slice. What the blocks beside a
--- macroblock count is found in the list before it.
-unfoldable pub text_after : SliceShape → ℕ → List Mb → List Mb → List Bool
-text_after shape pos before [] = stop_text pos
-text_after shape pos before (mb ∷ mbs) =
-    let text = macroblock_text (around_of shape before (length before)) pos mb in
-    text ++ text_after shape (pos + length text) (before ++ mb ∷ []) mbs
+-- mb_skip_run before a macroblock that isn't skipped: how many are, between the last one that isn't and this one. I slices
+-- have none.
+abbrev pub run_text : SliceKind → ℕ → List Bool
+run_text slices.I run = []
+run_text slices.P run = ue run
+run_text slices.B run = ue run
+
+-- mb_skip_run of the skipped macroblocks that end a slice, where there are some
+abbrev pub last_run_text : SliceKind → ℕ → List Bool
+last_run_text kind run = if run == 0 then [] else run_text kind run
+
+-- a macroblock that isn't skipped, behind the macroblocks `before`: what the blocks beside it count is found in their list
+abbrev pub coded_text : SliceShape → ℕ → List Mb → Mb → List Bool
+coded_text shape pos before mb = macroblock_text shape (around_of shape before (length before)) pos mb
+
+-- a macroblock that isn't skipped, with the mb_skip_run before it, behind `pos` bits
+abbrev pub put_text : SliceShape → Around → ℕ → ℕ → Mb → List Bool
+put_text shape around pos run mb =
+    let first = run_text shape.kind run in
+    first ++ macroblock_text shape around (pos + length first) mb
+
+-- The text of `mbs` behind `pos` bits and the macroblocks `before`, of which the last `run` ones are skipped and in no
+-- mb_skip_run yet, to the end of the slice.
+unfoldable pub text_after : SliceShape → ℕ → List Mb → ℕ → List Mb → List Bool
+text_after shape pos before run [] =
+    let last = last_run_text shape.kind run in
+    last ++ stop_text (pos + length last)
+text_after shape pos before run (mb ∷ mbs) =
+    if is_skip mb.kind
+    then text_after shape pos (before ++ mb ∷ []) (run + 1) mbs
+    else
+    let first = run_text shape.kind run in
+    let text = coded_text shape (pos + length first) before mb in
+    first ++ (text ++ text_after shape (pos + length first + length text) (before ++ mb ∷ []) 0 mbs)
 
 -- slice_data and the bits behind it, with `pos` bits before them
 abbrev pub slice_text : SliceShape → ℕ → List Mb → List Bool
-slice_text shape pos mbs = text_after shape pos [] mbs
+slice_text shape pos mbs = text_after shape pos [] 0 mbs
 
 -- no list has these bits as its text
 abbrev pub NoList : SliceShape → ℕ → List Bool → Type 0

@@ -1,9 +1,10 @@
 ghost use Rattle.std.specs.Prelude.{◌≡◌, ◌≤◌};
-ghost use Rattle.cavlc_macroblock.specs.MacroblockLayer.{is_beyond_mb};
-ghost use Rattle.cavlc_syntax.specs.Reading.{IsRead};
+ghost use Rattle.cavlc_macroblock.specs.Reading.{IsSent};
+ghost use Rattle.cavlc_mb_residual.specs.MacroblockResidual.{is_beyond_mb};
+ghost use Rattle.h264_types.specs.declared.slice_shape.SliceShape.{SliceShape};
 ghost use Rattle.cavlc_syntax.specs.SliceText.{prefix_bound};
 
-use cavlc_macroblock::is_beyond;
+use cavlc_mb_residual::is_beyond;
 use h264_types::{Mb, SliceShape};
 
 /// No level needs a longer level_prefix.
@@ -23,7 +24,7 @@ pub fn prefix_bound(shape: &SliceShape) -> u8
 
 /// Whether some level of a macroblock needs a level_prefix above the bound.
 pub fn needs_longer_prefix(mb: &Mb, bound: u8) -> bool
-    requires read { IsRead 20 mb.now }
+    requires sent { (shape : SliceShape) × IsSent shape 20 mb.now }
     requires within { bound ≤ 20 }
     ensures { result ≡ is_beyond_mb bound mb.now }
 {

@@ -1,7 +1,7 @@
 //! What the layers above rest on: the text of slice data is that of one list, fills bytes, ends in the stop bit, and
 //! doesn't rest on the column of the contexts of CABAC.
 ghost use Rattle.std.specs.Prelude.{◌≡◌, ◌⊎◌, ◌+◌, ◌%◌, ◌<◌, ◌++◌, ◌∷◌, ℕ, Bool, true, false, List, length, replicate};
-ghost use Rattle.cavlc_macroblock.specs.Counts.{around_of};
+ghost use Rattle.cavlc_mb_residual.specs.Counts.{around_of};
 ghost use Rattle.h264_types.specs.declared.macroblock.Mb.{Mb};
 ghost use Rattle.h264_types.specs.declared.slice_shape.SliceShape.{SliceShape};
 ghost use Rattle.h264_types.specs.SliceShape.{without_column};

@@ -1,15 +1,15 @@
-//! The data of slices in CAVLC (ITU-T H.264, 7.3.4, 7.3.5 and 7.3.2.10), read and written one macroblock at a time: I
-//! slices outside MBAFF, without the 8x8 transform. specs/SliceText has the text of a list of macroblocks, specs/Standing and
-//! specs/Written what a reader and a writer stand for. `laws` has what the layers above rest on.
+//! The data of slices in CAVLC (ITU-T H.264, 7.3.4 and 7.3.2.10), read and written one macroblock at a time: I, P and B
+//! slices outside MBAFF. specs/SliceText has the text of a list of macroblocks, specs/Standing and specs/Written what a
+//! reader and a writer stand for. `laws` has what the layers above rest on.
 #![tactic(auto)]
 
 mod bound;
+mod end;
 mod fault;
 pub mod laws;
-mod layer;
 mod reader;
 mod row;
-mod samples;
+mod run;
 mod writer;
 
 pub use fault::{PutFault, SliceFault};

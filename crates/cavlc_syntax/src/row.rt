@@ -2,10 +2,10 @@
 ghost use Rattle.std.specs.Prelude.{◌≡◌, ◌+◌, ◌*◌, ◌<◌, ◌∷◌, ◌++◌, [], All, length, IfOk, IfSome, List};
 ghost use Rattle.h264_types.specs.Slice.{left_number, above_number};
 ghost use Rattle.h264_types.specs.declared.macroblock.Mb.{Mb};
-ghost use Rattle.cavlc_macroblock.specs.Counts.{AreSmallCounts, IsAround, around_of, counts_at};
+ghost use Rattle.cavlc_mb_residual.specs.Counts.{AreSmallCounts, IsAround, around_of, counts_at};
 ghost use Rattle.cavlc_syntax.specs.Row.{IsInRows, IsRow};
 
-use cavlc_macroblock::{Around, Counts};
+use cavlc_mb_residual::{Around, Counts};
 use h264_types::{Mb, SliceShape};
 use std::alloc::{AllocError as Memory, Global};
 

@@ -2,11 +2,34 @@ ghost use Rattle.std.specs.Prelude.{◌≡◌, ◌≤◌, ◌⊎◌};
 ghost use Rattle.cavlc_syntax.specs.SliceText.{IsBuiltShape};
 
 use super::*;
-use cavlc_macroblock::has_sizes;
+use cavlc_mb_residual::has_sizes;
 use exp_golomb::{BitSink, BitSource, BitVec, SliceBits};
 use h264_types::{Mb, MbKind, SliceKind, SliceShape, valid};
 use std::alloc::Global;
 use std::test::Fail;
+
+/// A slice of this kind that begins a picture, with one reference of each list.
+fn shape_of(kind: SliceKind, width: u32, height: u32, profile: u8) -> SliceShape
+    requires some { (1 ≤ width) × (1 ≤ height) }
+    requires few { (width ≤ 11) × (height ≤ 9) }
+    requires profile { (profile ≡ 77) ⊎ (profile ≡ 100) }
+    ensures { IsBuiltShape result }
+{
+    SliceShape {
+        kind,
+        width,
+        height,
+        first: 0,
+        mbaff: false,
+        field_pic: false,
+        refs: [1, 1],
+        t8_mode: false,
+        direct8: true,
+        profile,
+        qp: 26,
+        column: 0,
+    }
+}
 
 /// An I slice that begins a picture of one row.
 fn row_of(width: u32, profile: u8) -> SliceShape
@@ -15,20 +38,7 @@ fn row_of(width: u32, profile: u8) -> SliceShape
     requires profile { (profile ≡ 77) ⊎ (profile ≡ 100) }
     ensures { IsBuiltShape result }
 {
-    SliceShape {
-        kind: SliceKind::I,
-        width,
-        height: 1,
-        first: 0,
-        mbaff: false,
-        field_pic: false,
-        refs: [0, 0],
-        t8_mode: false,
-        direct8: true,
-        profile,
-        qp: 26,
-        column: 0,
-    }
+    shape_of(SliceKind::I, width, 1, profile)
 }
 
 /// Each byte so many times.
@@ -42,26 +52,27 @@ fn bytes_of(alloc: Global, runs: &[(u16, u8)]) -> Result<Vec<u8>, Fail> {
     Ok(bytes)
 }
 
-/// How many macroblocks a reader gives, and its refusal, if any.
+/// How many macroblocks a reader gives, how many of them are skipped, and its refusal, if any.
 fn read(
     alloc: Global,
     shape: SliceShape,
     bits: SliceBits<'_>,
-) -> Result<(u8, Option<SliceFault>), Fail>
+) -> Result<(u8, u8, Option<SliceFault>), Fail>
     requires { IsBuiltShape shape }
 {
     let mut reader = CavlcReader::start(alloc, shape, bits)?;
-    for count in 0..5u8 {
+    let mut skipped = 0u8;
+    for count in 0..100u8 {
         match reader.next() {
-            Ok(Step::Mb(_)) => {}
+            Ok(Step::Mb(mb)) => skipped = skipped.saturating_add(u8::from(mb.kind.is_skip())),
             Ok(Step::End) => {
                 let left = reader.into_bits().bit();
-                return Ok((count, left.map(|_| SliceFault::Memory)));
+                return Ok((count, skipped, left.map(|_| SliceFault::Memory)));
             }
-            Err(fault) => return Ok((count, Some(fault))),
+            Err(fault) => return Ok((count, skipped, Some(fault))),
         }
     }
-    Ok((5, None))
+    Ok((100, skipped, None))
 }
 
 #[test]
@@ -223,7 +234,10 @@ fn slice_data_are_read(rt: HostRuntime) -> Result<(), Fail> {
         let bytes = bytes_of(rt.alloc(), runs)?;
         let mut bits = SliceBits::new(bytes.as_slice());
         assert!(rt; bits.skip(before));
-        assert_eq!(rt; read(rt.alloc(), row_of(width, 77), bits)?, (count, fault));
+        assert_eq!(rt;
+            read(rt.alloc(), row_of(width, 77), bits)?,
+            (count, 0, fault)
+        );
     }
     Ok(())
 }
@@ -240,7 +254,7 @@ fn copied<B: BitSource, K: BitSink>(
     let mut reader = CavlcReader::start(alloc, shape, source)?;
     let mut writer = CavlcWriter::start(alloc, shape, sink)?;
     let mut mb = Mb::without_elements(MbKind::Skip);
-    for _i in 0..4u8 {
+    for _i in 0..100u8 {
         let Ok(more) = reader.next_into(&mut mb) else {
             return Ok(None);
         };
@@ -348,6 +362,101 @@ fn slice_data_come_back(rt: HostRuntime) -> Result<(), Fail> {
         if copy.aligned() {
             let wanted = bytes_of(rt.alloc(), written)?;
             assert_eq!(rt; copy.into_bytes().as_slice(), wanted.as_slice());
+        }
+    }
+    Ok(())
+}
+
+#[test]
+fn runs_of_skipped_macroblocks(rt: HostRuntime) -> Result<(), Fail> {
+    let none = None;
+    let no_reading = Some(SliceFault::NoReading);
+    // the picture, the bytes, how many macroblocks and skipped ones are read, and the refusal
+    let rows: [(
+        SliceKind,
+        u32,
+        u32,
+        &[(u16, u8)],
+        u8,
+        u8,
+        Option<SliceFault>,
+    ); 15] = [
+        // mb_skip_run 1, and the end
+        (SliceKind::P, 1, 1, &[(1, 0x50)], 1, 1, none),
+        (SliceKind::B, 2, 1, &[(1, 0x70)], 2, 2, none),
+        (SliceKind::P, 11, 9, &[(1, 0x03), (1, 0x24)], 99, 99, none),
+        // more than the picture has room for, at the beginning and behind two macroblocks
+        (SliceKind::P, 1, 1, &[(1, 0x70)], 0, 0, no_reading),
+        (
+            SliceKind::P,
+            11,
+            9,
+            &[(1, 0x03), (1, 0x2C)],
+            0,
+            0,
+            no_reading,
+        ),
+        (
+            SliceKind::P,
+            2,
+            1,
+            &[(1, 0x5E), (1, 0xA0)],
+            2,
+            1,
+            no_reading,
+        ),
+        // P_L0_16x16 without levels; behind it mb_skip_run 0, and the end
+        (SliceKind::P, 1, 1, &[(1, 0xFC)], 1, 0, none),
+        (SliceKind::P, 1, 1, &[(1, 0xC0)], 0, 0, no_reading),
+        (SliceKind::P, 2, 1, &[(1, 0xFE)], 1, 0, no_reading),
+        // no stop bit, and no bit
+        (SliceKind::P, 1, 1, &[(1, 0x40)], 1, 1, no_reading),
+        (SliceKind::P, 1, 1, &[], 0, 0, no_reading),
+        // B_Direct_16x16 and B_Skip
+        (SliceKind::B, 2, 1, &[(1, 0xEA)], 2, 1, none),
+        // I_PCM between skipped ones
+        (
+            SliceKind::P,
+            3,
+            1,
+            &[(1, 0x41), (1, 0xF0), (384, 7), (1, 0x50)],
+            3,
+            2,
+            none,
+        ),
+        // a skipped one above a macroblock counts nothing, whatever stands above it
+        (
+            SliceKind::P,
+            1,
+            3,
+            &[
+                (1, 0xF2),
+                (1, 0xF1),
+                (1, 0x85),
+                (1, 0xD7),
+                (1, 0x7F),
+                (1, 0x80),
+            ],
+            3,
+            1,
+            none,
+        ),
+        (SliceKind::P, 1, 1, &[(1, 0x50), (1, 0)], 1, 1, no_reading),
+    ];
+    for (kind, width, height, runs, count, skipped, fault) in rows {
+        let bytes = bytes_of(rt.alloc(), runs)?;
+        let shape = shape_of(kind, width, height, 77);
+        let bits = SliceBits::new(bytes.as_slice());
+        assert_eq!(rt; read(rt.alloc(), shape, bits)?, (count, skipped, fault));
+        if fault.is_none() {
+            let bits = SliceBits::new(bytes.as_slice());
+            let Some(copy) = copied(rt.alloc(), shape, bits, BitVec::new(rt.alloc()))? else {
+                return Err(Fail::from("not copied"));
+            };
+            assert!(rt; copy.aligned());
+            if copy.aligned() {
+                assert_eq!(rt; copy.into_bytes().as_slice(), bytes.as_slice());
+            }
         }
     }
     Ok(())

@@ -1,66 +1,63 @@
 -- A macroblock is read, the end is found, or the bits are refused.
-use Rattle.std.proofs.Common.{◌≡◌, ◌↔◌, inl, inr, ℕ, ◌+◌, ◌*◌, ◌<◌, ◌≤◌, false, true, [], ◌∷◌, ◌++◌, length, None, Some, refl, subst, length-append, arith}
-use Rattle.std.specs.Prelude.{IsTrue}
-use Rattle.std.proofs.lemmas.Bool.{cases_lt}
-use Rattle.cavlc_macroblock.specs.declared.counts.Around.{Around}
-use Rattle.cavlc_syntax.specs.Reading.{ReadsMacroblock}
-use Rattle.cavlc_syntax.specs.SliceText.{HasText, slice_text, NoList}
-use Rattle.cavlc_syntax.specs.Standing.{place_in, Knows, Stands, AreGiven}
-use Rattle.cavlc_syntax.proofs.Known.{by_kept, refuse_more, refuse_text, refuse_end, know_next, know_end, are_given}
-use Rattle.cavlc_syntax.proofs.Texts.{around_next}
+use Rattle.std.proofs.Common.{◌+◌, ◌-◌, ◌<◌, inl, inr, arith}
+use Rattle.cavlc_syntax.specs.Standing.{place_in}
+use Rattle.cavlc_syntax.proofs.Known.{stands_end, stands_run, stands_some, stands_none, refuse_other, refuse_ahead}
 use Rattle.cavlc_syntax.proofs.reader.CavlcReader.next_into.Goals as goal
 
--- a test of room
-is_full : (used all : ℕ) → IsTrue false ↔ (used < all) → all ≤ used
-is_full used all h = elim (cases_lt used all) [ inl lt ↦ let f : false ≡ true = h.1 lt in absurd cc | inr le ↦ le ]
-
 pub returns-then-read_end : goal.returns-then-read_end
-returns-then-read_end g c shape pos all done =
+returns-then-read_end g c shape pos all done s =
     let r = c.args.self.now in
     let at = place_in g.B.BitSource.taken g.B.BitSource.left in
-    by_kept r.shape r.count r.row.counts.items (at r.bits) (λ sh. HasText sh done × (all ≡ slice_text sh pos done) × (g.B.BitSource.left c.read_end.new.bits ≡ [])) shape pos all done (λ k counted row.
-    let ended = know_end r.shape pos all done (at r.bits) k (omega (arith, counted, c.if-is_at_end.ensures.0)) c.if-read_end.ensures.0 in
-    (ended.0, ended.1, c.if-read_end.ensures.1))
+    let over = c.if-is_at_end.ensures in
+    let ended = stands_end r.shape r.count r.row.counts.items r.run (at r.bits) shape pos all done over.0 over.1 c.if-read_end.ensures.0 s in
+    (ended.0, ended.1, c.if-read_end.ensures.1)
 
 pub returns-else-read_end : goal.returns-else-read_end
 returns-else-read_end g c shape pos all done =
     let r = c.args.self.now in
     let at = place_in g.B.BitSource.taken g.B.BitSource.left in
-    by_kept r.shape r.count r.row.counts.items (at r.bits) (λ sh. NoList sh pos all) shape pos all done (λ k counted row.
-    refuse_end r.shape pos all done (at r.bits) k c.if-is_at_end.ensures.1 c.if-read_end.ensures)
+    let over = c.if-is_at_end.ensures in
+    refuse_other r.shape r.count r.row.counts.items r.run (at r.bits) shape pos all done over.1 over.2 c.if-read_end.ensures
 
-pub returns-then-not-has_room : goal.returns-then-not-has_room
-returns-then-not-has_room g c shape pos all done =
+pub returns-then-room-eq0 : goal.returns-then-room-eq0
+returns-then-room-eq0 g c shape pos all done =
     let r = c.args.self.now in
     let at = place_in g.B.BitSource.taken g.B.BitSource.left in
-    let full = is_full (r.shape.first + r.count) (r.shape.width * r.shape.height) c.if-not-has_room.ensures in
-    by_kept r.shape r.count r.row.counts.items (at r.bits) (λ sh. NoList sh pos all) shape pos all done (λ k counted row.
-    refuse_more r.shape pos all done (at r.bits) k (λ some. c.if-is_at_end.ensures (omega (arith, counted, some))) (omega (arith, counted, full)))
+    refuse_ahead r.shape r.count r.row.counts.items r.run c.room-room.result (at r.bits) shape pos all done c.if-is_at_end.ensures c.room-room.ensures (inl c.if-room-eq0.true)
 
 pub returns-in_default : goal.returns-in_default
 returns-in_default g c shape pos all done =
     let r = c.args.self.now in
     let at = place_in g.B.BitSource.taken g.B.BitSource.left in
-    let mb = c.read_macroblock.new.mb in
-    let after = at c.read_macroblock.new.bits in
-    by_kept r.shape r.count r.row.counts.items (at r.bits) (λ sh. NoList sh pos all) shape pos all done (λ k counted row.
-    let P : Around → ℕ → Type 0 = λ around bound. ReadsMacroblock around bound (at r.bits) None mb after in
-    refuse_text r.shape pos all done (at r.bits) after mb k (λ some. c.if-is_at_end.ensures (omega (arith, counted, some)))
-    (subst (P (around_next r.shape done)) c.prefix_bound-bound.ensures.value (subst (λ around. P around c.prefix_bound-bound.result) (c.around-around.ensures.value done counted row) c.in_default.ensures)))
+    refuse_ahead r.shape r.count r.row.counts.items r.run c.room-room.result (at r.bits) shape pos all done c.if-is_at_end.ensures c.room-room.ensures (inr c.in_default.ensures)
 
-pub returns : goal.returns
-returns g c shape pos all done =
+pub returns-then-run-gt0 : goal.returns-then-run-gt0
+returns-then-run-gt0 g c shape pos all done s =
     let r = c.args.self.now in
     let at = place_in g.B.BitSource.taken g.B.BitSource.left in
-    let mb = c.read_macroblock.new.mb in
-    let after = at c.read_macroblock.new.bits in
-    by_kept r.shape r.count r.row.counts.items (at r.bits) (λ sh. Stands r.shape (r.count + 1) c.push.new.self.counts.items after sh pos all (done ++ mb ∷ []) × AreGiven sh pos all (done ++ mb ∷ [])) shape pos all done (λ k counted row.
-    let P : Around → ℕ → Type 0 = λ around bound. ReadsMacroblock around bound (at r.bits) (Some tt) mb after in
-    let took = subst (P (around_next r.shape done)) c.prefix_bound-bound.ensures.value (subst (λ around. P around c.prefix_bound-bound.result) (c.around-around.ensures.value done counted row) c.in-Some.ensures) in
-    let more : Knows r.shape pos all (done ++ mb ∷ []) after = know_next r.shape pos all done (at r.bits) after mb k (λ some. c.if-is_at_end.ensures (omega (arith, counted, some)))
-    (omega (arith, counted, c.if-not-has_room.ensures.0 refl)) took in
-    let count : r.count + 1 ≡ length (done ++ mb ∷ []) = omega (arith, counted, length-append done (mb ∷ [])) in
-    (record { of = refl; counted = count; row_is = c.push.ensures.row done counted row; knows = more }, are_given r.shape pos all (done ++ mb ∷ []) after more (omega (arith, count))))
+    let run = c.in-Some.run' in
+    let d = at c.read_run.new.bits in
+    let some : 0 < run = omega (arith, c.if-run-gt0.true) in
+    c.give_skipped.ensures shape pos all done
+    (stands_some r.shape r.count r.row.counts.items run (run - 1 + 1) d shape pos all done some (omega (arith, some))
+    (stands_run r.shape r.count r.row.counts.items r.run c.room-room.result (at r.bits) run d shape pos all done c.if-is_at_end.ensures c.room-room.ensures (omega (arith, c.if-room-eq0.false)) c.in-Some.ensures s))
 
-pub invariant_of-self-2 : goal.invariant_of-self-2
-invariant_of-self-2 g c = record { in_rows = c.args.self.now.in_rows; kept = c.push.ensures.size }
+pub returns-in-Some-read_coded : goal.returns-in-Some-read_coded
+returns-in-Some-read_coded g c shape pos all done s =
+    let r = c.args.self.now in
+    let at = place_in g.B.BitSource.taken g.B.BitSource.left in
+    let run = c.in-Some.run' in
+    let d = at c.read_run.new.bits in
+    c.in-Some-read_coded.ensures shape pos all done
+    (stands_none r.shape r.count r.row.counts.items run d shape pos all done (omega (arith, c.if-run-gt0.false))
+    (stands_run r.shape r.count r.row.counts.items r.run c.room-room.result (at r.bits) run d shape pos all done c.if-is_at_end.ensures c.room-room.ensures (omega (arith, c.if-room-eq0.false)) c.in-Some.ensures s))
+
+pub returns-in-None : goal.returns-in-None
+returns-in-None g c shape pos all done s =
+    let r = c.args.self.now in
+    let at = place_in g.B.BitSource.taken g.B.BitSource.left in
+    let run = c.in-Some.run' in
+    let d = at c.read_run.new.bits in
+    c.in-None.ensures shape pos all done
+    (stands_none r.shape r.count r.row.counts.items run d shape pos all done (omega (arith, c.if-run-gt0.false))
+    (stands_run r.shape r.count r.row.counts.items r.run c.room-room.result (at r.bits) run d shape pos all done c.if-is_at_end.ensures c.room-room.ensures (omega (arith, c.if-room-eq0.false)) c.in-Some.ensures s))

@@ -4,8 +4,8 @@ use Rattle.std.specs.Option.{is_some}
 use Rattle.bit_texts.specs.Cursor.{Cursor}
 use Rattle.cavlc_syntax.specs.SliceText.{stop_text}
 use Rattle.cavlc_syntax.specs.Reading.{stop_at}
-use Rattle.cavlc_syntax.proofs.Alignment.{not_stop, is_end, more_than_end}
-use Rattle.cavlc_syntax.proofs.layer.read_end.Goals as goal
+use Rattle.cavlc_syntax.proofs.Ends.{not_stop, is_end, more_than_end}
+use Rattle.cavlc_syntax.proofs.end.read_end.Goals as goal
 
 pub returns-in_default : goal.returns-in_default
 returns-in_default g c = not_stop _ c.in_default.ensures

@@ -1,7 +1,7 @@
 use Rattle.bit_texts.proofs.Writing.{Appends-none, Appends-then, Appends-same}
 use Rattle.std.proofs.Common.{sym}
-use Rattle.cavlc_syntax.proofs.Alignment.{stop_parts}
-use Rattle.cavlc_syntax.proofs.layer.write_end.Goals as goal
+use Rattle.cavlc_syntax.proofs.Ends.{stop_parts}
+use Rattle.cavlc_syntax.proofs.end.write_end.Goals as goal
 
 pub returns-in_err-put : goal.returns-in_err-put
 returns-in_err-put g c = Appends-none _ _ _ _ c.from_residual.ensures.0 c.in_err-put.ensures.err

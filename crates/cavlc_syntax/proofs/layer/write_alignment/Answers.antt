@@ -1,8 +1,0 @@
-use Rattle.bit_texts.proofs.Writing.{Wrote-next}
-use Rattle.cavlc_syntax.proofs.Alignment.{not_aligned, alignment_more}
-use Rattle.cavlc_syntax.proofs.layer.write_alignment.Goals as goal
-
-pub loop-bits-preserved : goal.loop-bits-preserved
-loop-bits-preserved g c =
-    let bits = g.B.BitSink.bits in
-    Wrote-next _ (bits c.loop-bits.bits) (bits c.put.new.self) _ _ _ _ (alignment_more _ _ (not_aligned _ c.loop-bits-test.ensures) c.in_ok-put.ensures.ok) c.loop-bits.invariant c.in_ok-put.ensures.ok

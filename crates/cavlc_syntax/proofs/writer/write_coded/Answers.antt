@@ -1,0 +1,14 @@
+use Rattle.std.proofs.Common.{length, ap, ◌∙◌, length-append}
+use Rattle.bit_texts.proofs.Writing.{Appends-stop, Appends-then, Appends-same}
+use Rattle.cavlc_macroblock.specs.Macroblock.{macroblock_text}
+use Rattle.cavlc_syntax.specs.SliceText.{run_text}
+use Rattle.cavlc_syntax.proofs.writer.write_coded.Goals as goal
+
+pub returns-in_err-write_run : goal.returns-in_err-write_run
+returns-in_err-write_run g c = let put = c.in_err-write_run.ensures in Appends-stop _ _ _ _ put.0 _ c.from_residual.ensures.0 put.1
+
+pub returns : goal.returns
+returns g c =
+    let old = g.B.BitSink.bits c.args.bits.now in
+    let far = ap length c.in_ok-write_run.ensures.is ∙ length-append old (run_text c.args.shape.now.kind c.args.run) in
+    Appends-then _ _ _ _ _ _ c.in_ok-write_run.ensures (Appends-same _ _ _ _ _ (ap (λ n. macroblock_text c.args.shape.now c.args.around.now n c.args.mb.now) far) c.write_macroblock.ensures)
