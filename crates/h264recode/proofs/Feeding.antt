@@ -9,18 +9,18 @@ use Rattle.h264_types.specs.Units.{Seen, seen}
 use Rattle.unit_io.specs.Faults.{Rose, RoseIfFailed}
 use Rattle.unit_io.specs.declared.sink.SinkFault.{SinkFault}
 use Rattle.unit_io.specs.declared.sink.SinkFault.TheVariants.{Failed as SinkFailed, Memory as SinkMemory}
-use Rattle.stream_recoder.specs.declared.plan.Plan.{Plan}
+use Rattle.slice_rewrite.specs.declared.plan.Plan.{Plan}
 use Rattle.h264recode.specs.declared.account.Account.{Account}
 use Rattle.stream_recoder.specs.declared.recoder.Recoder.{Recoder}
 use Rattle.h264recode.specs.declared.status.Status.{Status}
 use Rattle.h264recode.specs.declared.status.Status.TheVariants.{WriteFault}
-use Rattle.stream_recoder.specs.Items.{Item}
-use Rattle.stream_recoder.specs.Verdict.{Judges, Recodes}
+use Rattle.slice_rewrite.specs.Items.{Item}
+use Rattle.slice_rewrite.specs.Verdict.{Judges, Recodes}
 use Rattle.stream_recoder.specs.Written.{Written, all_written, forms}
 use Rattle.stream_recoder.specs.Recoder.{waiting, HasRecoded, RecodesMore, RecodingStops}
 use Rattle.h264recode.specs.Report.{TakesPart}
 use Rattle.h264recode.specs.Pieces.{IsReady, IsWrittenOf, PutsPart, PieceEnds, PieceDone, Notes, status_of_fault, status_of_stop}
-use Rattle.stream_recoder.proofs.Judging.{judged-front}
+use Rattle.stream_recoder.proofs.Outputs.{judged-front}
 
 -- ## What waits after a feed
 

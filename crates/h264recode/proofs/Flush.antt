@@ -8,16 +8,17 @@ use Rattle.h264_types.specs.Units.{Seen, seen, seen_whole}
 use Rattle.unit_io.specs.Faults.{Rose, RoseIfFailed}
 use Rattle.unit_io.specs.declared.sink.SinkFault.{SinkFault}
 use Rattle.unit_io.specs.declared.sink.SinkFault.TheVariants.{Failed as SinkFailed, Memory as SinkMemory}
-use Rattle.stream_recoder.specs.declared.plan.Plan.{Plan}
+use Rattle.slice_rewrite.specs.declared.plan.Plan.{Plan}
 use Rattle.h264recode.specs.declared.account.Account.{Account}
 use Rattle.h264recode.specs.declared.status.Status.{Status}
 use Rattle.h264recode.specs.declared.status.Status.TheVariants.{Ok as Done, BadWords, ReadFault, WriteFault, Stop, Outside, TooMuch, Memory, ReportFault, BadTable}
-use Rattle.stream_recoder.specs.Items.{Item}
-use Rattle.stream_recoder.specs.Verdict.{Recodes}
-use Rattle.stream_recoder.specs.Written.{forms, output}
+use Rattle.slice_rewrite.specs.Items.{Item}
+use Rattle.slice_rewrite.specs.Verdict.{Recodes}
+use Rattle.stream_recoder.specs.Written.{forms}
+use Rattle.slice_rewrite.specs.Written.{output}
 use Rattle.h264recode.specs.Pieces.{status_of_fault}
 use Rattle.h264recode.specs.Run.{IsOver, IsPartlyWritten, EndsEarly, RunEnds}
-use Rattle.stream_recoder.proofs.Judging.{judged-front, before-none, output-stays}
+use Rattle.stream_recoder.proofs.Outputs.{output_is, judged-front, before-none, output-stays}
 use Rattle.h264recode.proofs.Reading.{consumes-at, appends-at}
 
 appends-keeps : (a b c : Option (List ℕ)) (xs : List ℕ) → Appends a b xs → Keeps b c → Appends a c xs
@@ -85,7 +86,6 @@ ends-kept o bound left left' a b c account (BadTable at) h k = absurd h
 partly-of : (o : Plan) (bound : ℕ) (left left' a b : Option (List ℕ)) (given last over : List ℕ) (items read : List Item) (all : Seen) (v : Option Stopped) → Consumes left left' ((given ++ last) ++ over) → length last + length over ≤ 65536
     → length (given ++ last) ≤ bound → IsOver bound (given ++ last) over → Recodes o (seen given) items None → (all ≡ seen (given ++ last)) ⊎ ((all ≡ seen_whole (given ++ last)) × (over ≡ []) × IsAtEnd left')
     → Recodes o all read v → (rest : List ℕ) × (output o all.units read ≡ output o (seen given).units items ++ rest) → Appends a b (output o all.units read) → IsPartlyWritten o bound left left' a b
-unfolding output
 partly-of o bound left left' a b given last over items read all v consumed short within is_over none which judged grows w =
     let front = judged-front o [] all.units all.fault read v judged in
     let done = output o (seen given).units items in
@@ -109,7 +109,7 @@ partly-of o bound left left' a b given last over items read all v consumed short
       more = grows.0;
       rest = [];
       appended = appends-at a b (output o all.units read) (done ++ grows.0) grows.1 w;
-      written = ap forms (sym front.4) ∙ grows.1 ∙ sym (append-nil (done ++ grows.0));
+      written = output_is o front.0 read ∙ ap forms (sym front.4) ∙ sym (output_is o all.units read) ∙ grows.1 ∙ sym (append-nil (done ++ grows.0));
     }
 
 partly-seen : (o : Plan) (bound : ℕ) (left left' a b : Option (List ℕ)) (given over : List ℕ) (items : List Item) → Consumes left left' (given ++ over) → length over ≤ 1 → length given ≤ bound → IsOver bound given over

@@ -3,11 +3,11 @@ use Rattle.std.proofs.Common.{◌≡◌, ◌⊎◌, inl, inr, ℕ, ◌≤◌, Li
 use Rattle.std.specs.Io.KnownBytes.{Appends}
 use Rattle.h264_types.specs.declared.layer.Layer.{Layer}
 use Rattle.h264_types.specs.Units.{Seen, seen_whole}
-use Rattle.stream_recoder.specs.Items.{Item}
-use Rattle.stream_recoder.specs.Verdict.{Recodes}
-use Rattle.stream_recoder.specs.Written.{output}
-use Rattle.stream_recoder.specs.View.{Reads, SaysTheSame}
-use Rattle.stream_recoder.proofs.Headline.{reads-recoded, recodes-read, says-the-same}
+use Rattle.slice_rewrite.specs.Items.{Item}
+use Rattle.slice_rewrite.specs.Verdict.{Recodes}
+use Rattle.slice_rewrite.specs.Written.{output}
+use Rattle.slice_rewrite.specs.View.{Reads, CanBeWritten, SaysTheSame}
+use Rattle.slice_rewrite.proofs.Headline.{reads-recoded, recodes-read, recodes-writable, says-the-same}
 use Rattle.h264recode.specs.declared.status.Status.{Status}
 use Rattle.h264recode.specs.declared.status.Status.TheVariants.{Ok as Done}
 use Rattle.h264recode.specs.Headline.{IsInScope, IsHeadline}
@@ -21,13 +21,13 @@ not_replaced status (inr (inl e)) = absurd cc
 not_replaced status (inr (inr e)) = absurd cc
 
 passed : (to : Layer) (bound : ℕ) (b : List ℕ) (left' held held' : Option (List ℕ)) → Leaves (plan_to to) bound b left' held held' Done
-    → (left' ≡ Some []) × (length b ≤ bound) × ((items : List Item) × (bytes : List ℕ) × Reads to b items × Appends held held' bytes × SaysTheSame to items bytes)
+    → (left' ≡ Some []) × (length b ≤ bound) × ((items : List Item) × (bytes : List ℕ) × Reads to b items × CanBeWritten to items × Appends held held' bytes × SaysTheSame to items bytes)
 passed to bound b left' held held' h =
     let whole = judged-all bound b h.0 in
     let P : Seen → Type 0 = λ s. Recodes (plan_to to) s h.2.0 None in
     let A : Seen → Type 0 = λ s. Appends held held' (output (plan_to to) s.units h.2.0) in
     let recodes = subst P whole h.2.1 in
-    (h.1, h.0, (h.2.0, output (plan_to to) (seen_whole b).units h.2.0, reads-recoded (plan_to to) b h.2.0 recodes, subst A whole h.2.2, says-the-same (plan_to to) b h.2.0 refl recodes))
+    (h.1, h.0, (h.2.0, output (plan_to to) (seen_whole b).units h.2.0, reads-recoded (plan_to to) b h.2.0 recodes, recodes-writable (plan_to to) b h.2.0 recodes, subst A whole h.2.2, says-the-same (plan_to to) b h.2.0 refl recodes))
 
 told_done : (to : Layer) (bound : ℕ) (b : List ℕ) (left' held held' : Option (List ℕ)) (answer : Status) → IsTold (Some to) bound (Some b) left' held held' answer → answer ≡ Done → Leaves (plan_to to) bound b left' held held' Done
 told_done to bound b left' held held' answer told e =
@@ -38,7 +38,7 @@ told_done to bound b left' held held' answer told e =
 due_done : (to : Layer) (bound : ℕ) (b : List ℕ) → IsInScope to bound b → IsDue (Some to) bound b Done
 due_done to bound b scope =
     let P : Seen → Type 0 = λ s. Recodes (plan_to to) s scope.1.0 None in
-    (scope.0, (scope.1.0, subst P (sym (judged-all bound b scope.0)) (recodes-read (plan_to to) b scope.1.0 refl scope.1.1)))
+    (scope.0, (scope.1.0, subst P (sym (judged-all bound b scope.0)) (recodes-read (plan_to to) b scope.1.0 refl scope.1.1 scope.1.2)))
 
 pub is_headline : (layer : Option Layer) (bound : ℕ) (left left' held held' : Option (List ℕ)) (answer : Status) → IsTold layer bound left left' held held' answer → IsExact layer bound left answer → IsHeadline layer bound left left' held held' answer
 is_headline (Some to) bound (Some b) left' held held' answer told exact = record {

@@ -14,7 +14,7 @@ use Rattle.stream_recoder.specs.Written.{Written, forms}
 use Rattle.stream_recoder.specs.Recoder.{waiting, HasRecoded, Drains}
 use Rattle.h264recode.specs.Pieces.{Notes}
 use Rattle.h264recode.specs.Report.{TakesPart}
-use Rattle.stream_recoder.proofs.Judging.{forms-append}
+use Rattle.stream_recoder.proofs.Outputs.{forms-append}
 
 -- some of what waited was written and counted
 pub record Puts (held held' : Option (List ℕ)) (old new : Recoder) (account account' : Account) : Type 0 where

@@ -9,19 +9,20 @@ use Rattle.h264_types.specs.declared.fault.Stopped.TheVariants.{Stop as StopAt, 
 use Rattle.h264_types.specs.Units.{Seen, seen, seen_whole}
 use Rattle.unit_io.proofs.Known.{appends-more, appends-same}
 use Rattle.stream_taps.specs.declared.event.Event.{Event}
-use Rattle.stream_recoder.specs.declared.plan.Plan.{Plan}
+use Rattle.slice_rewrite.specs.declared.plan.Plan.{Plan}
 use Rattle.h264recode.specs.declared.account.Account.{Account}
 use Rattle.stream_recoder.specs.declared.recoder.Recoder.{Recoder}
 use Rattle.h264recode.specs.declared.status.Status.{Status}
 use Rattle.h264recode.specs.declared.status.Status.TheVariants.{Ok as Done, BadWords, ReadFault, WriteFault, Stop, Outside, TooMuch, Memory, ReportFault, BadTable}
 use Rattle.h264recode.specs.Account.{account_of}
-use Rattle.stream_recoder.specs.Items.{Item}
-use Rattle.stream_recoder.specs.Verdict.{Judges, Recodes}
-use Rattle.stream_recoder.specs.Written.{Written, all_written, forms, output}
+use Rattle.slice_rewrite.specs.Items.{Item}
+use Rattle.slice_rewrite.specs.Verdict.{Judges, Recodes}
+use Rattle.stream_recoder.specs.Written.{Written, all_written, forms}
+use Rattle.slice_rewrite.specs.Written.{output}
 use Rattle.stream_recoder.specs.Recoder.{waiting}
 use Rattle.h264recode.specs.Pieces.{IsReady, PutsPart, PutsAll, PieceEnds, PieceDone}
 use Rattle.h264recode.specs.Run.{IsPartlyWritten, EndsEarly, RunEnds}
-use Rattle.stream_recoder.proofs.Judging.{forms-append}
+use Rattle.stream_recoder.proofs.Outputs.{output_is, forms-append}
 
 -- some bytes were read and fed, and what is written for their units was put and counted
 pub record Reads (o : Plan) (left left' held held' : Option (List ℕ)) (r : Recoder) (account : Account) (taken : ℕ) : Type 0 where
@@ -78,8 +79,7 @@ read-ready r o fed written h =
 
 -- what was put is the output
 pub output-put : (o : Plan) (us : List (List ℕ)) (items : List Item) (written : List Written) → written ≡ all_written o us items → forms written ≡ output o us items
-unfolding output
-output-put o us items written e = ap forms e
+output-put o us items written e = ap forms e ∙ sym (output_is o us items)
 
 -- ## The turns
 

@@ -10,16 +10,17 @@ use Rattle.h264_types.specs.declared.fault.Stopped.{Stopped}
 use Rattle.h264_types.specs.declared.fault.Stopped.TheVariants.{Stop as StopAt, Outside as OutsideAt, Memory as NoMemory}
 use Rattle.h264_types.specs.Units.{Seen, seen, seen_whole}
 use Rattle.h264_types.proofs.Stays.{seen-stays}
-use Rattle.stream_recoder.specs.declared.plan.Plan.{Plan}
+use Rattle.slice_rewrite.specs.declared.plan.Plan.{Plan}
 use Rattle.h264recode.specs.declared.account.Account.{Account}
 use Rattle.h264recode.specs.declared.status.Status.{Status}
 use Rattle.h264recode.specs.declared.status.Status.TheVariants.{Ok as Done, BadWords, ReadFault, WriteFault, Stop, Outside, TooMuch, Memory, ReportFault, BadTable}
-use Rattle.stream_recoder.specs.Items.{Item}
-use Rattle.stream_recoder.specs.Verdict.{Judges, Recodes}
-use Rattle.stream_recoder.specs.Written.{output}
+use Rattle.slice_rewrite.specs.Items.{Item}
+use Rattle.slice_rewrite.specs.Verdict.{Judges, Recodes}
+use Rattle.slice_rewrite.specs.Written.{output}
 use Rattle.h264recode.specs.Report.{Reports}
 use Rattle.h264recode.specs.Run.{plan_to, RunEnds, IsPartlyWritten, EndsEarly, Ran, IsNoReport, RunAnswers, judged, IsFront, StopsAt, Passes, Leaves, LeavesBy, IsTold, IsDue, IsFault, IsExact, IsPromptFor, IsPrompt}
-use Rattle.stream_recoder.proofs.Judging.{one-verdict, verdict-stays, output-same, output-front, output-stays}
+use Rattle.slice_rewrite.proofs.Judging.{one-verdict, verdict-stays}
+use Rattle.stream_recoder.proofs.Outputs.{output-same, output-front, output-stays}
 use Rattle.h264recode.proofs.Reading.{appends-at}
 use Rattle.h264recode.proofs.Flush.{partly}
 

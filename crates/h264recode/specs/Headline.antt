@@ -2,22 +2,23 @@
 use Rattle.std.specs.Prelude.{◌≡◌, ◌⊎◌, ℕ, ◌≤◌, List, [], length, Option, Some}
 use Rattle.std.specs.Io.KnownBytes.{Appends}
 use Rattle.h264_types.specs.declared.layer.Layer.{Layer}
-use Rattle.stream_recoder.specs.Items.{Item}
-use Rattle.stream_recoder.specs.View.{Reads, SaysTheSame}
+use Rattle.slice_rewrite.specs.Items.{Item}
+use Rattle.slice_rewrite.specs.View.{Reads, CanBeWritten, SaysTheSame}
 use Rattle.h264recode.specs.declared.status.Status.{Status}
 use Rattle.h264recode.specs.declared.status.Status.TheVariants.{Ok as Done}
 use Rattle.h264recode.specs.Run.{IsFault}
 
--- the stream is in scope: it has no more bytes than may be read, and they are read as some items
+-- the stream is in scope: it has no more bytes than may be read, and they are read as some items; and no stop stands: each
+-- slice can be written
 abbrev pub IsInScope : Layer → ℕ → List ℕ → Type 0
-IsInScope to bound b = (length b ≤ bound) × ((items : List Item) × Reads to b items)
+IsInScope to bound b = (length b ≤ bound) × ((items : List Item) × Reads to b items × CanBeWritten to items)
 
--- The answer is Ok exactly when the stream is in scope, want of memory and faults of the ends aside. Then it was read to
--- its end, and the bytes written have a reading, with every slice in the wanted layer, and say the same as those read.
--- No stop stands against a stream in scope: none is named for what is read so far.
+-- The answer is Ok exactly when the stream is in scope and no stop stands, want of memory and faults of the ends aside. Then
+-- it was read to its end, and the bytes written have a reading, with every slice in the wanted layer, and say the same as
+-- those read.
 pub record IsRecoded (to : Layer) (bound : ℕ) (b : List ℕ) (left' held held' : Option (List ℕ)) (answer : Status) : Type 0 where
   pub ok : answer ≡ Done → (left' ≡ Some []) × (length b ≤ bound)
-      × ((items : List Item) × (bytes : List ℕ) × Reads to b items × Appends held held' bytes × SaysTheSame to items bytes)
+      × ((items : List Item) × (bytes : List ℕ) × Reads to b items × CanBeWritten to items × Appends held held' bytes × SaysTheSame to items bytes)
   pub in_scope : IsInScope to bound b → (answer ≡ Done) ⊎ IsFault answer
 
 -- the same of any words, where the source tells its bytes

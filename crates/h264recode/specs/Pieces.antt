@@ -7,13 +7,13 @@ use Rattle.h264_types.specs.Units.{Seen}
 use Rattle.stream_taps.specs.declared.event.Event.{Event}
 use Rattle.unit_io.specs.declared.sink.SinkFault.{SinkFault}
 use Rattle.unit_io.specs.declared.sink.SinkFault.TheVariants.{Failed as SinkFailed, Memory as SinkMemory}
-use Rattle.stream_recoder.specs.declared.plan.Plan.{Plan}
+use Rattle.slice_rewrite.specs.declared.plan.Plan.{Plan}
 use Rattle.h264recode.specs.declared.account.Account.{Account}
 use Rattle.stream_recoder.specs.declared.recoder.Recoder.{Recoder}
 use Rattle.h264recode.specs.declared.status.Status.{Status}
 use Rattle.h264recode.specs.declared.status.Status.TheVariants.{WriteFault, Stop, Outside, Memory}
-use Rattle.stream_recoder.specs.Items.{Item}
-use Rattle.stream_recoder.specs.Verdict.{Judges, Recodes}
+use Rattle.slice_rewrite.specs.Items.{Item}
+use Rattle.slice_rewrite.specs.Verdict.{Judges, Recodes}
 use Rattle.stream_recoder.specs.Written.{Written, all_written, forms}
 use Rattle.h264recode.specs.Account.{account_of}
 use Rattle.stream_recoder.specs.Recoder.{HasRecoded, waiting, plan_of}

@@ -5,13 +5,14 @@ use Rattle.h264_types.specs.declared.layer.Layer.{Layer}
 use Rattle.h264_types.specs.declared.fault.Stopped.{Stopped}
 use Rattle.h264_types.specs.declared.fault.Stopped.TheVariants.{Stop as StopAt, Outside as OutsideAt}
 use Rattle.h264_types.specs.Units.{Seen, seen, seen_whole}
-use Rattle.stream_recoder.specs.declared.plan.Plan.{Plan}
+use Rattle.slice_rewrite.specs.declared.plan.Plan.{Plan}
 use Rattle.h264recode.specs.declared.account.Account.{Account}
 use Rattle.h264recode.specs.declared.status.Status.{Status}
 use Rattle.h264recode.specs.declared.status.Status.TheVariants.{Ok as Done, BadWords, ReadFault, WriteFault, Stop, Outside, TooMuch, Memory, ReportFault}
-use Rattle.stream_recoder.specs.Items.{Item}
-use Rattle.stream_recoder.specs.Verdict.{Judges, Recodes}
-use Rattle.stream_recoder.specs.Written.{all_written, output}
+use Rattle.slice_rewrite.specs.Items.{Item}
+use Rattle.slice_rewrite.specs.Verdict.{Judges, Recodes}
+use Rattle.stream_recoder.specs.Written.{all_written}
+use Rattle.slice_rewrite.specs.Written.{output}
 use Rattle.h264recode.specs.Account.{account_of}
 use Rattle.h264recode.specs.Report.{Reports}
 

@@ -18,8 +18,9 @@ use crate::report::write_report;
 use crate::status::Status;
 use crate::words::read_words;
 use h264_types::{Layer, Stopped};
+use slice_rewrite::Plan;
 use std::alloc::Global;
-use stream_recoder::{Plan, Recoder};
+use stream_recoder::Recoder;
 use stream_taps::Tap;
 use unit_io::{Failed, Sink, SinkFault, Source, put_all};
 

@@ -1,11 +1,4 @@
-pub mod Slices
-pub mod Reasons
-pub mod Judging
-pub mod Splitting
-pub mod ComesBack
-pub mod Headline
+pub mod Outputs
 pub mod UnitForms
 pub mod Units
 pub mod Pieces
-pub mod SliceForms
-pub mod Quantisers

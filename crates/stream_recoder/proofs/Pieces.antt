@@ -8,13 +8,13 @@ use Rattle.h264_types.specs.Units.{seen, seen_whole}
 use Rattle.h264_types.proofs.Stays.{seen-stays}
 use Rattle.annexb_units.specs.declared.splitter.Splitter.{Splitter}
 use Rattle.annexb_units.specs.Splitter.{Feeds, ShowsNone, Shows, EndShowsNone, EndShows}
-use Rattle.stream_recoder.specs.declared.plan.Plan.{Plan}
+use Rattle.slice_rewrite.specs.declared.plan.Plan.{Plan}
 use Rattle.stream_recoder.specs.declared.recoder.Recoder.{Recoder}
-use Rattle.stream_recoder.specs.Items.{Item}
-use Rattle.stream_recoder.specs.Verdict.{unit_number, Judges, Recodes}
+use Rattle.slice_rewrite.specs.Items.{Item}
+use Rattle.slice_rewrite.specs.Verdict.{unit_number, Judges, Recodes}
 use Rattle.stream_recoder.specs.Written.{Written, all_written}
 use Rattle.stream_recoder.specs.Recoder.{waiting, Holds, HasRecoded, RecodesMore, RecodingStops, TakesAll, TakingStops}
-use Rattle.stream_recoder.proofs.Judging.{length-behind_judged}
+use Rattle.slice_rewrite.proofs.Judging.{length-behind_judged}
 use Rattle.stream_recoder.proofs.Units.{judges-next}
 
 -- the splitter was fed, and nothing else has changed
@@ -52,7 +52,10 @@ fed_stops r0 r1 r2 piece Memory k t = λ fed drained h.
     let J : Plan → Type 0 = λ o. Judges o [] s.0 None s.2 None in
     let W : Plan → Type 0 = λ o. drained ++ waiting r2 ≡ all_written o s.0 s.2 in
     (s.0, s.1, s.2, s.3, subst J k.plan s.4, subst W k.plan s.5, (s.6.0, s.6.1 ∙ ap (λ v. v ++ s.6.0) k.waits))
-fed_stops r0 r1 r2 piece (Stop case place) k t = absurd t
+fed_stops r0 r1 r2 piece (Stop case place) k t = λ fed drained h.
+    let s = seen (fed ++ piece) in
+    let P : Plan → Type 0 = λ o. (items : List Item) × Recodes o s items (Some (Stop case place)) × (drained ++ waiting r2 ≡ all_written o s.units items) in
+    subst P k.plan (t (fed ++ piece) (seen fed).units h.items drained (holds-fed r0 r1 piece fed drained k h) s.fault)
 
 pub fed_bad : (r0 r1 r2 r3 : Recoder) (piece : List ℕ) (n : ℕ) (why : Why) (stopped : Stopped) → Fed r0 r1 piece → Shows r0.splitter piece n why → TakesAll r1 r2 → r2.plan ≡ r1.plan → waiting r3 ≡ waiting r2 → stopped ≡ Outside n why
     → RecodingStops r0 r3 piece stopped

@@ -20,16 +20,18 @@ use Rattle.param_sets.specs.declared.fault.SetFault.{SetFault}
 use Rattle.param_sets.specs.declared.fault.SetFault.TheVariants.{NoReading, Profile, Limit, Memory}
 use Rattle.param_sets.specs.declared.pps.Pps.{Pps}
 use Rattle.param_sets.specs.declared.sps.Sps.{Sps}
-use Rattle.stream_recoder.specs.declared.plan.Plan.{Plan}
-use Rattle.stream_recoder.specs.declared.unit_kind.UnitKind.{UnitKind}
-use Rattle.stream_recoder.specs.declared.unit_kind.UnitKind.TheVariants.{Carried as IsCarried, Slice as IsSlice, Sps as IsSps, Pps as IsPps}
-use Rattle.stream_recoder.specs.Items.{header_of, unit_type, kind_of, Carried, TheSps, ThePps, TheSlice}
-use Rattle.stream_recoder.specs.Verdict.{IsRefusedUnit, IsRefusedEscape, Refuses, number_stop, has_pps}
-use Rattle.stream_recoder.specs.Written.{Written, written_of, form_of, with_start_code, sps_unit, pps_unit, pps_units, slice_in, slice_unit}
-use Rattle.stream_recoder.specs.declared.fault.UnitFault.{UnitFault}
-use Rattle.stream_recoder.specs.declared.fault.UnitFault.TheVariants.{Outside, Memory as NoMemoryLeft}
-use Rattle.stream_recoder.specs.Forms.{IsForm, IsRefusal, fault_of_escape, fault_of_set}
-use Rattle.stream_recoder.specs.SliceForms.{IsSliceForm, IsSliceRefusal}
+use Rattle.slice_rewrite.specs.declared.plan.Plan.{Plan}
+use Rattle.slice_rewrite.specs.declared.kinds.UnitKind.{UnitKind}
+use Rattle.slice_rewrite.specs.declared.kinds.UnitKind.TheVariants.{Carried as IsCarried, Slice as IsSlice, Sps as IsSps, Pps as IsPps}
+use Rattle.slice_rewrite.specs.Items.{header_of, unit_type, kind_of, Carried, TheSps, ThePps, TheSlice}
+use Rattle.slice_rewrite.specs.Verdict.{IsRefusedUnit, IsRefusedEscape, Refuses, number_stop, has_pps}
+use Rattle.slice_rewrite.specs.Written.{form_of, with_start_code, sps_unit, pps_unit, pps_units, slice_in, slice_bits, slice_unit}
+use Rattle.slice_rewrite.proofs.Slices.{slice-nal}
+use Rattle.stream_recoder.specs.Written.{Written, written_of}
+use Rattle.slice_rewrite.specs.declared.fault.RewriteFault.{RewriteFault}
+use Rattle.slice_rewrite.specs.declared.fault.RewriteFault.TheVariants as slices
+use Rattle.stream_recoder.specs.Forms.{IsForm, IsRefusal, fault_of_escape, fault_of_set, fault_of_slice}
+use Rattle.slice_rewrite.specs.SliceForms.{IsSliceForm, IsSliceRefusal}
 
 abbrev pub written_with : List ℕ → Event → Written
 written_with form event = record { form = form; event = event }
@@ -68,33 +70,33 @@ carried_escape to sets unit kind none = refuses_as to sets unit IsCarried Escape
 -- ## Units with a payload
 
 -- a unit without a payload
-escape_refused : (to : Layer) (sets : SetMaps) (unit : List ℕ) (k : UnitKind) (fault : EscapeFault) → (IsRefusedEscape to sets k unit Escape → Refuses to sets unit Escape)
-    → (fault ≡ BadEscape → (payload : List ℕ) → IsEscape payload (drop 1 unit) → ⊥) → IsRefusal to sets unit (fault_of_escape fault)
-escape_refused to sets unit k BadEscape refuse h = refuse (inl (refl, h refl))
-escape_refused to sets unit k NoMemory refuse h = tt
+escape_refused : (o : Plan) (sets : SetMaps) (unit : List ℕ) (k : UnitKind) (fault : EscapeFault) → (IsRefusedEscape o.to sets k unit Escape → Refuses o.to sets unit Escape)
+    → (fault ≡ BadEscape → (payload : List ℕ) → IsEscape payload (drop 1 unit) → ⊥) → IsRefusal o sets unit (fault_of_escape fault)
+escape_refused o sets unit k BadEscape refuse h = refuse (inl (refl, h refl))
+escape_refused o sets unit k NoMemory refuse h = tt
 
-pub escape_refused_sps : (to : Layer) (sets : SetMaps) (unit : List ℕ) (fault : EscapeFault) → kind_of unit ≡ IsSps → (fault ≡ BadEscape → (payload : List ℕ) → IsEscape payload (drop 1 unit) → ⊥) → IsRefusal to sets unit (fault_of_escape fault)
-escape_refused_sps to sets unit fault kind h = escape_refused to sets unit IsSps fault (λ r. refuses_as to sets unit IsSps Escape kind r) h
+pub escape_refused_sps : (o : Plan) (sets : SetMaps) (unit : List ℕ) (fault : EscapeFault) → kind_of unit ≡ IsSps → (fault ≡ BadEscape → (payload : List ℕ) → IsEscape payload (drop 1 unit) → ⊥) → IsRefusal o sets unit (fault_of_escape fault)
+escape_refused_sps o sets unit fault kind h = escape_refused o sets unit IsSps fault (λ r. refuses_as o.to sets unit IsSps Escape kind r) h
 
-pub escape_refused_pps : (to : Layer) (sets : SetMaps) (unit : List ℕ) (fault : EscapeFault) → kind_of unit ≡ IsPps → (fault ≡ BadEscape → (payload : List ℕ) → IsEscape payload (drop 1 unit) → ⊥) → IsRefusal to sets unit (fault_of_escape fault)
-escape_refused_pps to sets unit fault kind h = escape_refused to sets unit IsPps fault (λ r. refuses_as to sets unit IsPps Escape kind r) h
+pub escape_refused_pps : (o : Plan) (sets : SetMaps) (unit : List ℕ) (fault : EscapeFault) → kind_of unit ≡ IsPps → (fault ≡ BadEscape → (payload : List ℕ) → IsEscape payload (drop 1 unit) → ⊥) → IsRefusal o sets unit (fault_of_escape fault)
+escape_refused_pps o sets unit fault kind h = escape_refused o sets unit IsPps fault (λ r. refuses_as o.to sets unit IsPps Escape kind r) h
 
-pub escape_refused_slice : (to : Layer) (sets : SetMaps) (unit : List ℕ) (fault : EscapeFault) → kind_of unit ≡ IsSlice → (fault ≡ BadEscape → (payload : List ℕ) → IsEscape payload (drop 1 unit) → ⊥) → IsRefusal to sets unit (fault_of_escape fault)
-escape_refused_slice to sets unit fault kind h = escape_refused to sets unit IsSlice fault (λ r. refuses_as to sets unit IsSlice Escape kind r) h
+pub escape_refused_slice : (o : Plan) (sets : SetMaps) (unit : List ℕ) (fault : EscapeFault) → kind_of unit ≡ IsSlice → (fault ≡ BadEscape → (payload : List ℕ) → IsEscape payload (drop 1 unit) → ⊥) → IsRefusal o sets unit (fault_of_escape fault)
+escape_refused_slice o sets unit fault kind h = escape_refused o sets unit IsSlice fault (λ r. refuses_as o.to sets unit IsSlice Escape kind r) h
 
 -- ## Sets
 
-pub sps_refused : (to : Layer) (sets : SetMaps) (unit payload : List ℕ) (fault : SetFault) → kind_of unit ≡ IsSps → IsEscape payload (drop 1 unit) → ReadsSps (Err fault) (bits_of payload) → IsRefusal to sets unit (fault_of_set BadSps fault)
-sps_refused to sets unit payload NoReading kind is r = refuses_as to sets unit IsSps BadSps kind (inr (payload, is, inl (refl, r)))
-sps_refused to sets unit payload Profile kind is r = refuses_as to sets unit IsSps BadProfile kind (inr (payload, is, inr (OutsideProfile, refl, r)))
-sps_refused to sets unit payload Limit kind is r = refuses_as to sets unit IsSps BadLimit kind (inr (payload, is, inr (AboveLimit, refl, r)))
-sps_refused to sets unit payload Memory kind is r = tt
+pub sps_refused : (o : Plan) (sets : SetMaps) (unit payload : List ℕ) (fault : SetFault) → kind_of unit ≡ IsSps → IsEscape payload (drop 1 unit) → ReadsSps (Err fault) (bits_of payload) → IsRefusal o sets unit (fault_of_set BadSps fault)
+sps_refused o sets unit payload NoReading kind is r = refuses_as o.to sets unit IsSps BadSps kind (inr (payload, is, inl (refl, r)))
+sps_refused o sets unit payload Profile kind is r = refuses_as o.to sets unit IsSps BadProfile kind (inr (payload, is, inr (OutsideProfile, refl, r)))
+sps_refused o sets unit payload Limit kind is r = refuses_as o.to sets unit IsSps BadLimit kind (inr (payload, is, inr (AboveLimit, refl, r)))
+sps_refused o sets unit payload Memory kind is r = tt
 
-pub pps_refused : (to : Layer) (sets : SetMaps) (unit payload : List ℕ) (fault : SetFault) → kind_of unit ≡ IsPps → IsEscape payload (drop 1 unit) → ReadsPps (Err fault) (bits_of payload) → IsRefusal to sets unit (fault_of_set BadPps fault)
-pps_refused to sets unit payload NoReading kind is r = refuses_as to sets unit IsPps BadPps kind (inr (payload, is, inl (refl, r)))
-pps_refused to sets unit payload Profile kind is r = refuses_as to sets unit IsPps BadProfile kind (inr (payload, is, inr (OutsideProfile, refl, r)))
-pps_refused to sets unit payload Limit kind is r = absurd r
-pps_refused to sets unit payload Memory kind is r = tt
+pub pps_refused : (o : Plan) (sets : SetMaps) (unit payload : List ℕ) (fault : SetFault) → kind_of unit ≡ IsPps → IsEscape payload (drop 1 unit) → ReadsPps (Err fault) (bits_of payload) → IsRefusal o sets unit (fault_of_set BadPps fault)
+pps_refused o sets unit payload NoReading kind is r = refuses_as o.to sets unit IsPps BadPps kind (inr (payload, is, inl (refl, r)))
+pps_refused o sets unit payload Profile kind is r = refuses_as o.to sets unit IsPps BadProfile kind (inr (payload, is, inr (OutsideProfile, refl, r)))
+pps_refused o sets unit payload Limit kind is r = absurd r
+pps_refused o sets unit payload Memory kind is r = tt
 
 pub sps_written : (o : Plan) (sets after : SetMaps) (unit payload form : List ℕ) (sps : Sps) → kind_of unit ≡ IsSps → IsEscape payload (drop 1 unit) → SpsText sps (bits_of payload) → form ≡ with_start_code (sps_unit (header_of unit) sps)
     → after ≡ sps_put sps sets → IsForm o sets after unit form 0
@@ -123,22 +125,24 @@ pps_written o sets after unit payload form pps whole kind is text bytes stand = 
 
 -- ## Slices
 
-pub slice_refused : (to : Layer) (sets : SetMaps) (unit payload : List ℕ) (fault : UnitFault) → kind_of unit ≡ IsSlice → IsEscape payload (drop 1 unit) → IsSliceRefusal to sets (header_of unit) (bits_of payload) fault → IsRefusal to sets unit fault
-slice_refused to sets unit payload (Outside why) kind is r = refuses_as to sets unit IsSlice why kind (inr (payload, is, r))
-slice_refused to sets unit payload NoMemoryLeft kind is r = tt
+pub slice_refused : (o : Plan) (sets : SetMaps) (unit payload : List ℕ) (fault : RewriteFault) → kind_of unit ≡ IsSlice → IsEscape payload (drop 1 unit) → IsSliceRefusal o.to sets (header_of unit) (bits_of payload) fault → IsRefusal o sets unit (fault_of_slice fault)
+slice_refused o sets unit payload (slices.Outside why) kind is r = refuses_as o.to sets unit IsSlice why kind (inr (payload, is, r))
+slice_refused o sets unit payload (slices.Stop case k) kind is r = (TheSlice r.0, (payload, (kind, is), r.1), λ before. r.2)
+slice_refused o sets unit payload slices.Memory kind is r = tt
 
-pub slice_written : (o : Plan) (sets : SetMaps) (unit payload form written : List ℕ) (macroblocks : ℕ) → kind_of unit ≡ IsSlice → IsEscape payload (drop 1 unit)
-    → (f : IsSliceForm o.to sets (header_of unit) (bits_of payload) written macroblocks) → header_of unit ≡ f.slice.header.nal
-    → form ≡ with_start_code (header_of unit ∷ escaped (bytes_of (bits_of written))) → IsForm o sets sets unit form macroblocks
-slice_written o sets unit payload form written macroblocks kind is f nal bytes = record {
-  item = TheSlice f.slice;
-  read = (payload, (kind, is), f.read);
-  goes_on = λ before. refl;
-  sets_are = refl;
-  count = f.count;
-  bytes = bytes ∙ ap (λ h. with_start_code (h ∷ escaped (bytes_of (bits_of written)))) nal ∙ ap (λ b. with_start_code (f.slice.header.nal ∷ escaped (bytes_of b))) f.written
-      ∙ sym (append-nil (with_start_code (slice_unit (slice_in o.to f.slice))));
-}
+pub slice_written : (o : Plan) (sets : SetMaps) (unit payload form written : List ℕ) (number macroblocks : ℕ) → kind_of unit ≡ IsSlice → IsEscape payload (drop 1 unit)
+    → (f : IsSliceForm o.to number sets (header_of unit) (bits_of payload) written macroblocks) → bits_of written ≡ slice_bits (slice_in o.to f.slice) → form ≡ with_start_code (header_of unit ∷ escaped (bytes_of (bits_of written))) → IsForm o sets sets unit form macroblocks
+slice_written o sets unit payload form written number macroblocks kind is f own bytes =
+    let nal = sym (slice-nal o.to sets (header_of unit) (bits_of payload) f.slice f.read) in
+    record {
+      item = TheSlice f.slice;
+      read = (payload, (kind, is), f.read);
+      goes_on = λ before. f.goes_on;
+      sets_are = refl;
+      count = f.count;
+      bytes = bytes ∙ ap (λ h. with_start_code (h ∷ escaped (bytes_of (bits_of written)))) nal ∙ ap (λ b. with_start_code (f.slice.header.nal ∷ escaped (bytes_of b))) own
+          ∙ sym (append-nil (with_start_code (slice_unit (slice_in o.to f.slice))));
+    }
 
 -- ## What is written for a unit, with the event of it
 

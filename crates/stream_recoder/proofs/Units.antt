@@ -1,19 +1,22 @@
 -- Units taken from the splitter, and read.
 use Rattle.std.proofs.Common.{◌≡◌, ℕ, List, [], ◌∷◌, ◌++◌, Option, Some, None, refl, sym, ap, subst, ◌∙◌, arith, append-nil, append_assoc, length-append}
 use Rattle.h264_types.specs.declared.fault.Why.{Why}
+use Rattle.h264_types.specs.declared.fault.Case.{Case}
+use Rattle.h264_types.specs.declared.fault.Place.{Place}
 use Rattle.h264_types.specs.declared.fault.Stopped.{Stopped}
 use Rattle.h264_types.specs.declared.fault.Stopped.TheVariants.{Stop, Outside, Memory}
 use Rattle.h264_types.specs.Units.{seen}
 use Rattle.annexb_units.specs.declared.splitter.Splitter.{Splitter}
 use Rattle.annexb_units.specs.Splitter.{StandsFor, Keeps, Takes, IsAllTaken}
-use Rattle.stream_recoder.specs.declared.plan.Plan.{Plan}
+use Rattle.slice_rewrite.specs.declared.plan.Plan.{Plan}
 use Rattle.stream_recoder.specs.declared.recoder.Recoder.{Recoder}
 use Rattle.param_sets.specs.Sets.{SetMaps}
-use Rattle.stream_recoder.specs.Items.{Item, put, behind, sets_behind, IsItem}
-use Rattle.stream_recoder.specs.Verdict.{unit_number, Refuses, Judges}
+use Rattle.slice_rewrite.specs.Items.{Item, put, behind, sets_behind, IsItem}
+use Rattle.slice_rewrite.specs.Verdict.{unit_number, Refuses, stop_of, Judges}
 use Rattle.stream_recoder.specs.Written.{Written, written_of, all_written}
 use Rattle.stream_recoder.specs.Recoder.{waiting, Holds, Adds, IsRefusedBy, TakesAll, TakingStops}
-use Rattle.stream_recoder.proofs.Judging.{length-behind_judged, judges-more, written-more}
+use Rattle.slice_rewrite.proofs.Judging.{length-behind_judged, judges-more}
+use Rattle.stream_recoder.proofs.Outputs.{written-more}
 
 none_written : (o : Plan) (us : List (List ℕ)) → all_written o us [] ≡ []
 none_written o [] = refl
@@ -50,7 +53,7 @@ adds-taken r sp whole r' u v e a =
 pub refused-taken : (r : Recoder) (sp : Splitter) (whole : r.plan.range ≡ None) (u v : List ℕ) (stopped : Stopped) → v ≡ u → IsRefusedBy (record r { splitter = sp; whole = whole }) v stopped → IsRefusedBy r u stopped
 refused-taken r sp whole u v (Outside n why) e h = let P : List ℕ → Type 0 = λ x. Refuses r.plan.to r.sets x why in (h.0, subst P e h.1)
 refused-taken r sp whole u v Memory e h = h
-refused-taken r sp whole u v (Stop case place) e h = h
+refused-taken r sp whole u v (Stop case place) e h = let P : List ℕ → Type 0 = λ x. IsItem r.plan.to r.sets x h.1.0 in (h.0, (h.1.0, subst P e h.1.1, h.1.2))
 
 -- the last item comes first
 behind-append : (items : List Item) (i : Item) (before : List Item) → behind (items ++ i ∷ []) before ≡ i ∷ behind items before
@@ -95,6 +98,19 @@ refused r sp u fed taken items drained now n why k h num refuses same fault =
       ap (λ w. drained ++ w) same ∙ h.written ∙ sym (written-first r.plan taken (u ∷ next.0) items h.judged) ∙ ap (λ us. all_written r.plan us items) (sym next.1),
     )
 
+-- the next unit can't be written
+stopped : (r : Recoder) (sp : Splitter) (u fed : List ℕ) (taken : List (List ℕ)) (items : List Item) (drained now : List Written) (case : Case) (place : Place) (i : Item) → Takes r.splitter sp u → Holds r fed taken items drained
+    → place.unit ≡ r.units → IsItem r.plan.to r.sets u i → ((before : List Item) → stop_of r.plan before i ≡ Some (case, place.mb)) → now ≡ waiting r → (fault : Option Why) →
+    (all : List Item) × Judges r.plan [] (seen fed).units fault all (Some (Stop case place)) × (drained ++ now ≡ all_written r.plan (seen fed).units all)
+stopped r sp u fed taken items drained now case place i k h num is stops same fault =
+    let next = next_units r sp u fed taken k h.splitter in
+    let P : List (List ℕ) → Type 0 = λ us. Judges r.plan [] us fault items (Some (Stop case place)) in
+    let I : SetMaps → Type 0 = λ sets. IsItem r.plan.to sets u i in (
+      items,
+      subst P (sym next.1) (judges-next r.plan taken (u ∷ next.0) fault items (Some (Stop case place)) h.judged (num ∙ h.count ∙ ap unit_number (sym (length-behind_judged r.plan taken items h.judged)), (i, subst I h.sets is, stops (behind items [])))),
+      ap (λ w. drained ++ w) same ∙ h.written ∙ sym (written-first r.plan taken (u ∷ next.0) items h.judged) ∙ ap (λ us. all_written r.plan us items) (sym next.1),
+    )
+
 -- ## The loop over the units that have ended
 
 -- some units were taken since r0
@@ -119,7 +135,10 @@ none_more r0 r r' sp u Memory before grows plan k same x = λ fed taken items dr
     let J : Plan → Type 0 = λ o. Judges o [] b.0 None b.1 None in
     let W : Plan → Type 0 = λ o. drained ++ waiting r' ≡ all_written o b.0 b.1 in
     (b.0, u ∷ next.0, b.1, next.1, subst J plan b.2.judged, subst W plan (ap (λ w. drained ++ w) same ∙ b.2.written), (grows.0, same ∙ grows.1))
-none_more r0 r r' sp u (Stop case place) before grows plan k same x = x
+none_more r0 r r' sp u (Stop case place) before grows plan k same x = λ fed taken items drained h fault.
+    let b = before fed taken items drained h in
+    let P : Plan → Type 0 = λ o. (all : List Item) × Judges o [] (seen fed).units fault all (Some (Stop case place)) × (drained ++ waiting r' ≡ all_written o (seen fed).units all) in
+    subst P plan (stopped r sp u fed b.0 b.1 drained (waiting r') case place x.1.0 k b.2 x.0 x.1.1 x.1.2 same fault)
 
 pub all_more : (r0 r r' : Recoder) → Took r0 r → waiting r' ≡ waiting r → r'.units ≡ r.units → r'.sets ≡ r.sets → r'.plan ≡ r.plan → IsAllTaken r.splitter → Keeps r.splitter r'.splitter → TakesAll r0 r'
 all_more r0 r r' before same units sets plan all keeps = λ fed taken items drained h.

@@ -6,12 +6,12 @@ use Rattle.h264_types.specs.declared.fault.Stopped.{Stopped}
 use Rattle.h264_types.specs.declared.fault.Stopped.TheVariants.{Stop, Outside, Memory}
 use Rattle.h264_types.specs.Units.{Seen, seen}
 use Rattle.annexb_units.specs.Splitter.{StandsFor}
-use Rattle.stream_recoder.specs.declared.plan.Plan.{Plan}
+use Rattle.slice_rewrite.specs.declared.plan.Plan.{Plan}
 use Rattle.stream_recoder.specs.declared.recoder.Recoder.{Recoder}
 use Rattle.stream_recoder.specs.declared.fault.UnitFault.{UnitFault}
-use Rattle.stream_recoder.specs.declared.fault.UnitFault.TheVariants.{Outside as OutsideFault, Memory as NoMemory}
-use Rattle.stream_recoder.specs.Items.{Item, put, behind, sets_behind, IsItem}
-use Rattle.stream_recoder.specs.Verdict.{unit_number, Refuses, stop_of, Judges, Recodes}
+use Rattle.stream_recoder.specs.declared.fault.UnitFault.TheVariants.{Outside as OutsideFault, Stop as StopFault, Memory as NoMemory}
+use Rattle.slice_rewrite.specs.Items.{Item, put, behind, sets_behind, IsItem}
+use Rattle.slice_rewrite.specs.Verdict.{unit_number, Refuses, stop_of, Judges, Recodes}
 use Rattle.stream_recoder.specs.Written.{Written, written_of, all_written}
 
 -- what is written and not drained yet
@@ -97,23 +97,25 @@ pub record Adds (old new : Recoder) (unit : List ℕ) : Type 0 where
 -- how a fault of the unit of this number stops
 abbrev pub stopped_at : ℕ → UnitFault → Stopped
 stopped_at n (OutsideFault why) = Outside n why
+stopped_at n (StopFault case k) = Stop case record { unit = n; mb = k }
 stopped_at n NoMemory = Memory
 
--- a unit that has no item, or no memory for what is written
+-- a unit that has no item, or one that can't be written, or no memory for what is written
 abbrev pub IsRefusedBy : Recoder → List ℕ → Stopped → Type 0
 IsRefusedBy old unit (Outside n why) = (n ≡ old.units) × Refuses old.plan.to old.sets unit why
 IsRefusedBy old unit Memory = Unit {0}
-IsRefusedBy old unit (Stop case place) = ⊥
+IsRefusedBy old unit (Stop case place) = (place.unit ≡ old.units) × ((item : Item) × IsItem old.plan.to old.sets unit item × ((before : List Item) → stop_of old.plan before item ≡ Some (case, place.mb)))
 
 -- all units that have ended were taken, and have an item
 abbrev pub TakesAll : Recoder → Recoder → Type 0
 TakesAll old new = (fed : List ℕ) (taken : List (List ℕ)) (items : List Item) (drained : List Written) → Holds old fed taken items drained →
     (all : List Item) × Holds new fed (seen fed).units all drained
 
--- a unit that has ended is refused, or there is no memory
+-- a unit that has ended is refused or can't be written, or there is no memory
 abbrev pub TakingStops : Recoder → Recoder → Stopped → Type 0
 TakingStops old new (Outside n why) = (fed : List ℕ) (taken : List (List ℕ)) (items : List Item) (drained : List Written) → Holds old fed taken items drained →
     (fault : Option Why) → EndsAt old new (record (seen fed) { fault = fault }) drained (Outside n why)
 TakingStops old new Memory = (fed : List ℕ) (taken : List (List ℕ)) (items : List Item) (drained : List Written) → Holds old fed taken items drained →
     RunsOut old new (seen fed) drained
-TakingStops old new (Stop case place) = ⊥
+TakingStops old new (Stop case place) = (fed : List ℕ) (taken : List (List ℕ)) (items : List Item) (drained : List Written) → Holds old fed taken items drained →
+    (fault : Option Why) → EndsAt old new (record (seen fed) { fault = fault }) drained (Stop case place)

@@ -1,18 +1,19 @@
 // Why nothing is written for a unit.
 ghost use Rattle.std.specs.Prelude.{◌≡◌};
-ghost use Rattle.stream_recoder.specs.Forms.{fault_of_escape, fault_of_set, fault_of_header, fault_of_data};
+ghost use Rattle.stream_recoder.specs.Forms.{fault_of_escape, fault_of_set, fault_of_slice};
 
 use annexb_units::EscapeFault;
-use cavlc_syntax::SliceFault;
-use h264_types::Why;
+use h264_types::{Case, Why};
 use param_sets::SetFault;
-use slice_header::HeaderFault;
+use slice_rewrite::RewriteFault;
 
 /// Why nothing is written for a unit.
 #[derive(Clone, Copy, Debug, PartialEq, Eq)]
 pub enum UnitFault {
     /// It has no reading.
     Outside(Why),
+    /// It can be read and not written; the number of the macroblock.
+    Stop(Case, u32),
     /// Memory ran out.
     Memory,
 }
@@ -37,24 +38,12 @@ pub fn fault_of_set(none: Why, fault: SetFault) -> UnitFault
     }
 }
 
-pub fn fault_of_header(fault: HeaderFault) -> UnitFault
-    ensures { result ≡ fault_of_header fault }
+pub fn fault_of_slice(fault: RewriteFault) -> UnitFault
+    ensures { result ≡ fault_of_slice fault }
 {
     match fault {
-        HeaderFault::NoReading => UnitFault::Outside(Why::Header),
-        HeaderFault::MissingPps(number) => UnitFault::Outside(Why::MissingPps(number)),
-        HeaderFault::MissingSps(number) => UnitFault::Outside(Why::MissingSps(number)),
-        HeaderFault::Profile => UnitFault::Outside(Why::Profile),
-        HeaderFault::Unbuilt => UnitFault::Outside(Why::Unbuilt),
-        HeaderFault::Memory => UnitFault::Memory,
-    }
-}
-
-pub fn fault_of_data(fault: SliceFault) -> UnitFault
-    ensures { result ≡ fault_of_data fault }
-{
-    match fault {
-        SliceFault::NoReading => UnitFault::Outside(Why::Slice),
-        SliceFault::Memory => UnitFault::Memory,
+        RewriteFault::Outside(why) => UnitFault::Outside(why),
+        RewriteFault::Stop(case, mb) => UnitFault::Stop(case, mb),
+        RewriteFault::Memory => UnitFault::Memory,
     }
 }

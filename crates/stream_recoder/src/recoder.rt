@@ -1,15 +1,14 @@
 //! The recoder: the bytes of a stream in, written units out.
 ghost use Rattle.std.specs.Prelude.{◌≡◌, ◌+◌, ◌∷◌, ◌++◌, [], ℕ, List, length, map, Some, None, OnOk, OnErr, OnSome, Err, IfErr, IfOk, IfSome, IfNone};
-ghost use Rattle.stream_recoder.specs.Items.{unit_type};
+ghost use Rattle.slice_rewrite.specs.Items.{unit_type};
 ghost use Rattle.stream_recoder.specs.Written.{Written};
 
 use crate::fault::UnitFault;
-use crate::plan::Plan;
 use crate::unit_form::{UnitForm, unit_form};
-use crate::unit_kind::unit_type;
 use annexb_units::{SplitFault, Splitter};
-use h264_types::Stopped;
+use h264_types::{Place, Stopped};
 use param_sets::Sets;
+use slice_rewrite::{Plan, unit_type};
 use std::alloc::{AllocError as Memory, Global};
 use std::collections::VecDeque;
 use stream_taps::Event;
@@ -145,10 +144,12 @@ impl Recoder {
         ensures value { result ≡ stopped_at self.old.units fault }
         ensures after { self.new ≡ record self.old { stopped = Some (stopped_at self.old.units fault) } }
     {
+        let unit = self.units;
         match fault {
-            UnitFault::Outside(why) => self.stop(Stopped::Outside {
-                unit: self.units,
-                why,
+            UnitFault::Outside(why) => self.stop(Stopped::Outside { unit, why }),
+            UnitFault::Stop(case, mb) => self.stop(Stopped::Stop {
+                case,
+                place: Place { unit, mb },
             }),
             UnitFault::Memory => self.stop(Stopped::Memory),
         }

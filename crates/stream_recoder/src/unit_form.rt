@@ -4,17 +4,15 @@ ghost use Rattle.bit_texts.specs.Bits.{bits_of, bytes_of};
 ghost use Rattle.exp_golomb.specs.EmulationPrevention.{HasEscape, escaped};
 ghost use Rattle.param_sets.specs.PpsCodes.{IsPps};
 ghost use Rattle.param_sets.specs.SpsCodes.{IsSps, without_constraints};
-ghost use Rattle.stream_recoder.specs.Items.{kind_of};
-ghost use Rattle.stream_recoder.specs.Written.{with_start_code, sps_unit, pps_unit};
+ghost use Rattle.slice_rewrite.specs.Items.{kind_of};
+ghost use Rattle.slice_rewrite.specs.Written.{with_start_code, sps_unit, pps_unit};
 ghost use Rattle.stream_recoder.specs.Forms.{IsForm, IsRefusal};
 
-use crate::fault::{UnitFault, fault_of_escape, fault_of_set};
-use crate::plan::Plan;
-use crate::slice_form::recode_slice;
-use crate::unit_kind::{UnitKind, unit_kind};
+use crate::fault::{UnitFault, fault_of_escape, fault_of_set, fault_of_slice};
 use annexb_units::{has_payload, unescape, write_unit};
 use h264_types::{Layer, Why};
 use param_sets::{Pps, Sets, Sps, read_pps, read_sps, write_pps, write_sps};
+use slice_rewrite::{Plan, UnitKind, named_set, recode_slice, unit_kind};
 use std::alloc::{AllocError as Memory, Global};
 
 /// A unit in its written form.
@@ -35,7 +33,7 @@ pub fn unit_form(
 ) -> Result<UnitForm, UnitFault>
     requires { plan.range ≡ None }
     ensures ok { IfOk result (λ form. IsForm plan sets.old sets.new unit.now form.bytes.items form.macroblocks) }
-    ensures err { IfErr result (IsRefusal plan.to sets.old unit.now) }
+    ensures err { IfErr result (IsRefusal plan sets.old unit.now) }
 {
     if unit.is_empty() {
         return Err(UnitFault::Outside(Why::Kind));
@@ -54,7 +52,7 @@ fn carried_form(alloc: Global, plan: Plan, sets: &Sets, unit: &[u8]) -> Result<U
     requires kind { kind_of unit.now ≡ UnitKind.Carried }
     requires some { 1 ≤ length unit.now }
     ensures ok { IfOk result (λ form. IsForm plan sets.now sets.now unit.now form.bytes.items form.macroblocks) }
-    ensures err { IfErr result (IsRefusal plan.to sets.now unit.now) }
+    ensures err { IfErr result (IsRefusal plan sets.now unit.now) }
 {
     if !has_payload(unit) {
         return Err(UnitFault::Outside(Why::Escape));
@@ -83,7 +81,7 @@ fn sps_form(alloc: Global, plan: Plan, sets: &mut Sets, unit: &[u8]) -> Result<U
     requires kind { kind_of unit.now ≡ UnitKind.Sps }
     requires some { 1 ≤ length unit.now }
     ensures ok { IfOk result (λ form. IsForm plan sets.old sets.new unit.now form.bytes.items form.macroblocks) }
-    ensures err { IfErr result (IsRefusal plan.to sets.old unit.now) }
+    ensures err { IfErr result (IsRefusal plan sets.old unit.now) }
 {
     let payload = match unescape(alloc, unit) {
         Ok(payload) => payload,
@@ -111,7 +109,7 @@ fn pps_form(alloc: Global, plan: Plan, sets: &mut Sets, unit: &[u8]) -> Result<U
     requires some { 1 ≤ length unit.now }
     requires whole { plan.range ≡ None }
     ensures ok { IfOk result (λ form. IsForm plan sets.old sets.new unit.now form.bytes.items form.macroblocks) }
-    ensures err { IfErr result (IsRefusal plan.to sets.old unit.now) }
+    ensures err { IfErr result (IsRefusal plan sets.old unit.now) }
 {
     let payload = match unescape(alloc, unit) {
         Ok(payload) => payload,
@@ -138,15 +136,16 @@ fn coded_form(alloc: Global, plan: Plan, sets: &Sets, unit: &[u8]) -> Result<Uni
     requires kind { kind_of unit.now ≡ UnitKind.Slice }
     requires some { 1 ≤ length unit.now }
     ensures ok { IfOk result (λ form. IsForm plan sets.now sets.now unit.now form.bytes.items form.macroblocks) }
-    ensures err { IfErr result (IsRefusal plan.to sets.now unit.now) }
+    ensures err { IfErr result (IsRefusal plan sets.now unit.now) }
 {
     let payload = match unescape(alloc, unit) {
         Ok(payload) => payload,
         Err(fault) => return Err(fault_of_escape(fault)),
     };
-    let slice = match recode_slice(alloc, sets, unit[0], payload.as_slice(), plan.to) {
+    let number = named_set(payload.as_slice());
+    let slice = match recode_slice(alloc, sets, unit[0], payload.as_slice(), plan.to, number) {
         Ok(slice) => slice,
-        Err(fault) => return Err(fault),
+        Err(fault) => return Err(fault_of_slice(fault)),
     };
     match payload_unit(alloc, unit[0], slice.payload.as_slice()) {
         Ok(bytes) => Ok(UnitForm {

@@ -9,12 +9,12 @@ use std::process::Abort;
 use std::test::Fail;
 
 /// Main, one macroblock, and a picture parameter set of CAVLC, behind start codes of three bytes.
-const SETS: &[u8] = &[
+pub const SETS: &[u8] = &[
     0, 0, 1, 0x67, 0x4D, 0x40, 0x0A, 0xDA, 0x79, 0, 0, 1, 0x68, 0xCE, 0x38, 0x80,
 ];
 
 /// The same as they are written in CAVLC, and in CABAC.
-const CAVLC_SETS: &[u8] = &[
+pub const CAVLC_SETS: &[u8] = &[
     0, 0, 0, 1, 0x67, 0x4D, 0x40, 0x0A, 0xDA, 0x79, 0, 0, 0, 1, 0x68, 0xCE, 0x38, 0x80,
 ];
 
@@ -39,7 +39,7 @@ const I_PCM: &[u8] = &[0, 0, 1, 0x65, 0x88, 0x84, 0x86, 0x80, 0, 0, 3, 0];
 const SAMPLES: usize = 382;
 
 // These bytes, one after another, and then so many bytes 80.
-fn bytes(alloc: Global, parts: &[&[u8]], last: usize) -> Result<Vec<u8>, Fail> {
+pub fn bytes(alloc: Global, parts: &[&[u8]], last: usize) -> Result<Vec<u8>, Fail> {
     let mut bytes = Vec::new(alloc);
     for part in parts {
         bytes.extend_from_slice(part)?;
@@ -229,32 +229,10 @@ fn slices_are_refused(rt: HostRuntime) -> Result<(), Fail> {
             "outside unit 1 missing sps 0\n",
         ),
     ];
-    let eight: &[u8] = &[
-        0, 0, 1, 0x67, 0x64, 0, 0x0A, 0xAC, 0xB4, 0xF2, 0, 0, 1, 0x68, 0xCE, 0x38, 0xB0, 0, 0, 1,
-        0x65, 0x88, 0x84, 0x93, 0xC0,
-    ];
-    let eight_sets: &[u8] = &[
-        0, 0, 0, 1, 0x67, 0x64, 0, 0x0A, 0xAC, 0xB4, 0xF2, 0, 0, 0, 1, 0x68, 0xCE, 0x38, 0xB0,
-    ];
-    let row = outside(
-        eight,
-        2,
-        Why::Unbuilt,
-        eight_sets,
-        "outside unit 2 unbuilt\n",
-    );
-    expect(&rt, rt.alloc(), &row, 100)?;
     for row in &rows {
         expect(&rt, rt.alloc(), row, 1)?;
         expect(&rt, rt.alloc(), row, 100)?;
     }
-    expect_behind_sets(
-        &rt,
-        rt.alloc(),
-        &[1, 0x9A, 0x25, 0x40],
-        Why::Unbuilt,
-        "outside unit 2 unbuilt\n",
-    )?;
     // cut before the levels of Intra16x16DCLevel
     expect_behind_sets(
         &rt,

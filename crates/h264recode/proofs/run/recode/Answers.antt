@@ -1,6 +1,6 @@
 use Rattle.std.proofs.Common.{subst}
 use Rattle.h264_types.specs.Units.{seen}
-use Rattle.stream_recoder.specs.declared.plan.Plan.{Plan}
+use Rattle.slice_rewrite.specs.declared.plan.Plan.{Plan}
 use Rattle.h264recode.specs.Run.{RunEnds}
 use Rattle.h264recode.proofs.Flush.{ends-kept, flush_ends, none_begun}
 use Rattle.h264recode.proofs.run.recode.Goals as goal

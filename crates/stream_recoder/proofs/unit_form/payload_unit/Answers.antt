@@ -1,7 +1,7 @@
 use Rattle.std.proofs.Common.{◌∙◌, ◌∷◌, ◌++◌, List, ℕ, arith, ap, sym, subst}
 use Rattle.bit_texts.proofs.Bytes.{bytes_of-bits_of}
 use Rattle.exp_golomb.specs.EmulationPrevention.{HasEscape, escaped}
-use Rattle.stream_recoder.specs.Written.{with_start_code}
+use Rattle.slice_rewrite.specs.Written.{with_start_code}
 use Rattle.stream_recoder.proofs.unit_form.payload_unit.Goals as goal
 
 pub write_unit-requires : goal.write_unit-requires

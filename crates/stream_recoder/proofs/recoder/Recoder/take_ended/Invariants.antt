@@ -1,6 +1,6 @@
 use Rattle.std.proofs.Common.{◌≡◌, List, ℕ, ◌++◌}
 use Rattle.annexb_units.specs.Splitter.{waiting_count}
-use Rattle.stream_recoder.specs.Items.{Item}
+use Rattle.slice_rewrite.specs.Items.{Item}
 use Rattle.stream_recoder.specs.Written.{Written}
 use Rattle.stream_recoder.specs.Recoder.{waiting, Holds}
 use Rattle.stream_recoder.proofs.recoder.Recoder.take_ended.Given as goal

@@ -1,0 +1,11 @@
+pub mod Named
+pub mod Normal
+pub mod Stops
+pub mod Slices
+pub mod Reasons
+pub mod Judging
+pub mod Splitting
+pub mod ComesBack
+pub mod Headline
+pub mod SliceForms
+pub mod Quantisers

@@ -1,0 +1,283 @@
+-- What is written for a slice, and why nothing is.
+use Rattle.std.proofs.Common.{◌≡◌, inl, inr, ℕ, zero, suc, ◌+◌, ◌-◌, ◌%◌, ◌<◌, Bool, true, false, List, [], ◌∷◌, ◌++◌, length, get_or, map, take, drop, Option, Some, None, refl, sym, ap, subst, ◌∙◌, arith, length-append}
+use Rattle.std.specs.Prelude.{All, Result, Ok, Err, IfOk, IfErr}
+use Rattle.std.proofs.lemmas.List.{map-append, take_more, take-append-drop}
+use Rattle.bit_texts.specs.Bits.{bits_of}
+use Rattle.bit_texts.specs.Texts.{Appended}
+use Rattle.cavlc_mb_residual.specs.MacroblockResidual.{HasSizes}
+use Rattle.cavlc_syntax.specs.SliceText.{IsBuiltShape, AreOfSlice, HasText, slice_text, NoList}
+use Rattle.cavlc_syntax.specs.Standing.{Refuses}
+use Rattle.cavlc_syntax.specs.Written.{BeginsSlice, WritesFor}
+use Rattle.cavlc_syntax.specs.declared.writer.CavlcWriter.{CavlcWriter}
+use Rattle.cavlc_syntax.specs.declared.fault.SliceFault.{SliceFault}
+use Rattle.cavlc_syntax.specs.declared.fault.SliceFault.TheVariants as macroblocks
+use Rattle.cavlc_syntax.proofs.Texts.{slice_of_both, slice_fills}
+use Rattle.h264_types.specs.declared.fault.Case.{Case}
+use Rattle.h264_types.specs.declared.fault.Why.{Why}
+use Rattle.h264_types.specs.declared.fault.Why.TheVariants.{Unbuilt as NotBuiltYet, Slice as BadSlice}
+use Rattle.h264_types.specs.declared.layer.Layer.{Layer}
+use Rattle.h264_types.specs.declared.layer.Layer.TheVariants.{Cavlc, Cabac}
+use Rattle.h264_types.specs.declared.macroblock.Mb.{Mb}
+use Rattle.h264_types.specs.SliceShape.{without_column}
+use Rattle.h264_types.specs.declared.slice_shape.SliceShape.{SliceShape}
+use Rattle.param_sets.specs.PpsCodes.{mode_flag_of}
+use Rattle.param_sets.specs.Sets.{SetMaps}
+use Rattle.param_sets.specs.SpsCodes.{IsSps}
+use Rattle.pattern_fix.specs.NormalPattern.{IsEmptied}
+use Rattle.slice_header.specs.HeaderCodes.{HeaderFits, HeaderText, IsUnder, Names, ReadsHeader, active_in, header_in, header_text, unconstrained}
+use Rattle.header_parts.specs.Refusal.{OutsideProfile, NoPps, NoSps}
+use Rattle.slice_header.specs.Shape.{shape_of}
+use Rattle.header_parts.specs.ActiveSets.{Active}
+use Rattle.header_parts.specs.declared.fault.HeaderFault.{HeaderFault}
+use Rattle.header_parts.specs.declared.fault.HeaderFault.TheVariants as headers
+use Rattle.header_parts.specs.declared.header.Header.{Header}
+use Rattle.slice_header.proofs.HeaderLaws.{same_text}
+use Rattle.slice_rewrite.specs.declared.fault.RewriteFault.{RewriteFault}
+use Rattle.slice_rewrite.specs.declared.fault.RewriteFault.TheVariants.{Outside, Stop, Memory}
+use Rattle.slice_rewrite.specs.Items.{is_unbuilt, IsSliceOf}
+use Rattle.slice_rewrite.specs.Stops.{least_stop}
+use Rattle.slice_rewrite.specs.Verdict.{IsNoSlice}
+use Rattle.slice_rewrite.specs.Written.{written_mb, slice_under, slice_in, slice_bits}
+use Rattle.slice_rewrite.specs.SliceForms.{Ends, IsSliceForm, IsSliceRefusal, coded, IsSliceRead, IsNotOpened, IsOpened, IsUnderSets, IsSliceWritten, IsNotWritten, IsCopy, IsNoCopy, IsNoDataRead, IsDataWritten, IsNoDataWritten, fault_of_header, fault_of_data}
+use Rattle.slice_rewrite.proofs.Normal.{all_front, front_written, written_sizes}
+use Rattle.slice_rewrite.proofs.Slices.{fit, not_unbuilt, names-once, header-found, no_data, built_shape, built_under}
+use Rattle.slice_rewrite.proofs.Stops.{none_emptied}
+
+-- ## The header
+
+pub header_fault : (to : Layer) (sets : SetMaps) (header : ℕ) (bits rest : List Bool) (fault : HeaderFault) → ReadsHeader sets header (Err fault) bits rest → IsNotOpened to sets header bits (fault_of_header fault)
+header_fault to sets header bits rest headers.NoReading h = inl (inl (refl, h))
+header_fault to sets header bits rest (headers.MissingPps number) h = inl (inr (NoPps number, refl, h))
+header_fault to sets header bits rest (headers.MissingSps number) h = inl (inr (NoSps number, refl, h))
+header_fault to sets header bits rest headers.Profile h = inl (inr (OutsideProfile, refl, h))
+header_fault to sets header bits rest headers.Memory h = tt
+
+-- what is_unbuilt answers, under the sets that are named
+abbrev pub IsJudged : Layer → SetMaps → Header → Bool → Type 0
+IsJudged to sets h unbuilt = (active : Active) → Names sets h.pic_parameter_set_id active → unbuilt ≡ is_unbuilt to active h
+
+pub header_unbuilt : (to : Layer) (sets : SetMaps) (header : ℕ) (bits left rest : List Bool) (h : Header) → left ≡ bits → ReadsHeader sets header (Ok h) left rest → IsJudged to sets h true → IsNotOpened to sets header bits (Outside NotBuiltYet)
+header_unbuilt to sets header bits left rest h all text judged =
+    let P : List Bool → Type 0 = λ b. ReadsHeader sets header (Ok h) b rest in
+    let read = subst P all text in
+    let f = header-found sets header bits rest h read in
+    no_data to sets header bits rest h f read true NotBuiltYet (sym (judged f.active f.names)) refl
+
+pub header_opened : (to : Layer) (sets : SetMaps) (header : ℕ) (bits taken left taken' left' : List Bool) (h : Header) → left ≡ bits → taken ≡ [] → ReadsHeader sets header (Ok h) left left' → IsUnder sets h → taken' ++ left' ≡ taken ++ left
+    → IsJudged to sets h false → IsOpened to sets header bits h taken' left'
+header_opened to sets header bits taken left taken' left' h all none text under kept judged =
+    let P : List Bool → Type 0 = λ b. ReadsHeader sets header (Ok h) b left' in
+    record { text = subst P all text; under = under; built = λ active names. sym (judged active names); kept = kept ∙ ap (λ t. t ++ left) none ∙ all }
+
+-- ## The data behind it
+
+-- so many bits were taken
+places : (bits taken rest : List Bool) → taken ++ rest ≡ bits → length taken ≡ length bits - length rest
+places bits taken rest kept = omega (arith, length-append taken rest, ap length kept)
+
+-- the shape of the slice, and what is known of its sets
+abbrev pub IsShape : SetMaps → Header → SliceShape → Type 0
+IsShape sets h shape = (active : Active) → Names sets h.pic_parameter_set_id active → shape ≡ shape_of active h
+
+abbrev pub AreSets : SetMaps → Header → Type 0
+AreSets sets h = (active : Active) → Names sets h.pic_parameter_set_id active → IsSps active.sps
+
+pub shape_built : (to : Layer) (sets : SetMaps) (header : ℕ) (bits taken rest : List Bool) (h : Header) (shape : SliceShape) → IsOpened to sets header bits h taken rest → IsShape sets h shape → AreSets sets h → IsBuiltShape shape
+shape_built to sets header bits taken rest h shape r is range =
+    let f = header-found sets header bits rest h r.text in
+    subst IsBuiltShape (sym (is f.active f.names)) (built_under to f.active h (range f.active f.names) f.fits (r.built f.active f.names))
+
+-- the slice of this header and these data
+pub slice_opened : (to : Layer) (sets : SetMaps) (header : ℕ) (bits taken rest : List Bool) (h : Header) (shape : SliceShape) (mbs : List Mb) → IsOpened to sets header bits h taken rest → IsShape sets h shape
+    → HasText shape mbs → rest ≡ slice_text shape (length taken) mbs → (active : Active) × Names sets h.pic_parameter_set_id active × IsSliceOf to sets header bits (coded active h mbs)
+slice_opened to sets header bits taken rest h shape mbs r is list read =
+    let f = header-found sets header bits rest h r.text in
+    let T : SliceShape → Type 0 = λ s. HasText s mbs in
+    let same = is f.active f.names in (
+      f.active,
+      f.names,
+      record {
+        names = f.names;
+        rest = rest;
+        header_is = r.text;
+        built = r.built f.active f.names;
+        list = subst T same list;
+        rest_is = read ∙ ap (λ s. slice_text s (length taken) mbs) same ∙ ap (λ n. slice_text (shape_of f.active h) n mbs) (places bits taken rest r.kept);
+      },
+    )
+
+pub data_refused : (to : Layer) (sets : SetMaps) (header : ℕ) (bits taken rest : List Bool) (h : Header) (shape : SliceShape) (why : Why) → IsOpened to sets header bits h taken rest → IsShape sets h shape → why ≡ BadSlice → NoList shape (length taken) rest
+    → IsNoSlice to sets header bits why
+data_refused to sets header bits taken rest h shape why r is bad none =
+    let f = header-found sets header bits rest h r.text in
+    let P : SliceShape → Type 0 = λ s. NoList s (length taken) rest in
+    let Q : ℕ → Type 0 = λ n. NoList (shape_of f.active h) n rest in
+    no_data to sets header bits rest h f r.text false why (r.built f.active f.names) (bad, subst Q (places bits taken rest r.kept) (subst P (is f.active f.names) none))
+
+-- ## Reading
+
+pub no_data_read : (shape : SliceShape) (pos : ℕ) (left : List Bool) (fault : SliceFault) → Refuses shape pos left fault → IsNoDataRead shape pos left (fault_of_data fault)
+no_data_read shape pos left macroblocks.NoReading h = (refl, h)
+no_data_read shape pos left macroblocks.Memory h = tt
+
+pub not_read : (to : Layer) (sets : SetMaps) (header : ℕ) (bits taken rest : List Bool) (h : Header) (shape : SliceShape) (fault : RewriteFault) → IsOpened to sets header bits h taken rest → IsShape sets h shape → IsNoDataRead shape (length taken) rest fault
+    → IsNotOpened to sets header bits fault
+not_read to sets header bits taken rest h shape (Outside why) r is none = data_refused to sets header bits taken rest h shape why r is none.0 none.1
+not_read to sets header bits taken rest h shape (Stop case k) r is none = none
+not_read to sets header bits taken rest h shape Memory r is none = tt
+
+pub slice_read : (sets : SetMaps) (header : ℕ) (bits taken rest : List Bool) (h : Header) (shape : SliceShape) (mbs : List Mb) → IsOpened Cavlc sets header bits h taken rest → IsShape sets h shape → HasText shape mbs → rest ≡ slice_text shape (length taken) mbs
+    → IsSliceRead sets header bits h mbs
+slice_read sets header bits taken rest h shape mbs r is list read = let s = slice_opened Cavlc sets header bits taken rest h shape mbs r is list read in (s.0, s.2)
+
+-- ## Writing
+
+-- the header that is written, without the constraint flags too
+pub header_written : (to : Layer) (number idc : ℕ) (active : Active) (h : Header) (start out : List Bool) → start ≡ [] → Appended start out (header_text (active_in to number active) (header_in to number idc h))
+    → out ≡ header_text (active_in to number (unconstrained active)) (header_in to number idc h)
+header_written to number idc active h start out none put =
+    let text = header_text (active_in to number active) (header_in to number idc h) in
+    put.is ∙ ap (λ s. s ++ text) none ∙ sym (same_text (active_in to number active) (header_in to number idc h))
+
+-- the payload that is written, of a header and data behind it
+pub payload_written : (to : Layer) (number idc : ℕ) (active : Active) (h : Header) (mbs : List Mb) (shape : SliceShape) (out after : List Bool) (payload : List ℕ) → shape ≡ shape_of active h
+    → out ≡ header_text (active_in to number (unconstrained active)) (header_in to number idc h) → after ≡ out ++ slice_text shape (length out) (map (written_mb to) mbs) → bits_of payload ≡ after
+    → bits_of payload ≡ slice_bits (slice_under to number idc (coded active h mbs))
+payload_written to number idc active h mbs shape out after payload is written put bytes =
+    let t = slice_under to number idc (coded active h mbs) in
+    let text = header_text t.active t.header in
+    bytes ∙ put ∙ ap (λ x. x ++ slice_text shape (length x) t.mbs) written ∙ ap (λ x. text ++ x) (slice_of_both shape (shape_of t.active t.header) (length text) t.mbs (ap without_column is))
+
+pub data_fills : (shape : SliceShape) (before after : List Bool) (mbs : List Mb) → after ≡ before ++ slice_text shape (length before) mbs → length after % 8 ≡ 0
+data_fills shape before after mbs e = ap (λ x. length x % 8) e ∙ ap (λ n. n % 8) (length-append before (slice_text shape (length before) mbs)) ∙ slice_fills shape (length before) mbs
+
+all_snoc : (P : Mb → Type 0) (done : List Mb) (mb : Mb) → All P done → P mb → All P (done ++ mb ∷ [])
+all_snoc P [] mb is p zero d below = p
+all_snoc P [] mb is p (suc k) d below = absurd (omega (arith, below))
+all_snoc P (x ∷ done) mb is p zero d below = is zero d (omega arith)
+all_snoc P (x ∷ done) mb is p (suc k) d below = all_snoc P done mb (λ j e within. is (suc j) e (omega (arith, within))) p k d (omega (arith, below))
+
+-- a macroblock that isn't emptied may be put behind others in their written form
+pub begins_written : (shape : SliceShape) (done tail : List Mb) (mb : Mb) → AreOfSlice shape ((done ++ mb ∷ []) ++ tail) → least_stop Cavlc shape done ≡ None → (IsEmptied mb → ⊥)
+    → BeginsSlice shape (map (written_mb Cavlc) done ++ written_mb Cavlc mb ∷ [])
+begins_written shape done tail mb are goes_on kept =
+    let K : Mb → Type 0 = λ m. IsEmptied m → ⊥ in
+    let all = all_snoc K done mb (none_emptied Cavlc shape done goes_on) kept in
+    let P : List Mb → Type 0 = λ front. AreOfSlice shape (front ++ tail) in (
+      tail,
+      subst P (map-append (written_mb Cavlc) done (mb ∷ [])) record {
+        slice = front_written Cavlc shape (done ++ mb ∷ []) tail are.slice all;
+        sizes = all_front HasSizes (written_mb Cavlc) (done ++ mb ∷ []) tail are.sizes (λ k d below one. written_sizes Cavlc _ one);
+      },
+    )
+
+-- the same of macroblock k behind the first k
+pub begins_at : (shape : SliceShape) (mbs : List Mb) (k : ℕ) (d : Mb) → k < length mbs → AreOfSlice shape mbs → least_stop Cavlc shape (take k mbs) ≡ None → (IsEmptied (get_or mbs k d) → ⊥)
+    → BeginsSlice shape (map (written_mb Cavlc) (take k mbs) ++ written_mb Cavlc (get_or mbs k d) ∷ [])
+begins_at shape mbs k d below are goes_on kept =
+    let A : List Mb → Type 0 = AreOfSlice shape in
+    let whole : (take k mbs ++ get_or mbs k d ∷ []) ++ drop (k + 1) mbs ≡ mbs = ap (λ x. x ++ drop (k + 1) mbs) (sym (take_more mbs k d below)) ∙ take-append-drop (k + 1) mbs in
+    begins_written shape (take k mbs) (drop (k + 1) mbs) (get_or mbs k d) (subst A (sym whole) are) goes_on kept
+
+pub slice_put : (to : Layer) (number idc : ℕ) (sets : SetMaps) (active : Active) (h : Header) (mbs : List Mb) (shape : SliceShape) (start out after : List Bool) (payload : List ℕ) → to ≡ Cavlc → IsUnderSets sets active h mbs → IsShape sets h shape → start ≡ []
+    → ((a : Active) → Names sets h.pic_parameter_set_id a → Appended start out (header_text (active_in to number a) (header_in to number idc h))) → IsDataWritten shape mbs out after → bits_of payload ≡ after
+    → IsSliceWritten to number idc (coded active h mbs) payload
+slice_put Cabac number idc sets active h mbs shape start out after payload e u is none put d bytes = absurd cc
+slice_put Cavlc number idc sets active h mbs shape start out after payload e u is none put d bytes = record {
+  goes_on = ap (λ s. least_stop Cavlc s mbs) (sym (is active u.names)) ∙ d.goes_on;
+  written = payload_written Cavlc number idc active h mbs shape out after payload (is active u.names) (header_written Cavlc number idc active h start out none (put active u.names)) d.written bytes;
+}
+
+pub slice_not_put : (to : Layer) (sets : SetMaps) (active : Active) (h : Header) (mbs : List Mb) (shape : SliceShape) (fault : RewriteFault) → to ≡ Cavlc → IsUnderSets sets active h mbs → IsShape sets h shape → IsNoDataWritten shape mbs fault → IsNotWritten to (coded active h mbs) fault
+slice_not_put Cabac sets active h mbs shape fault e u is none = absurd cc
+slice_not_put Cavlc sets active h mbs shape (Outside why) e u is none = none
+slice_not_put Cavlc sets active h mbs shape (Stop case k) e u is none = ap (λ s. least_stop Cavlc s mbs) (sym (is active u.names)) ∙ none
+slice_not_put Cavlc sets active h mbs shape Memory e u is none = tt
+
+-- a slice that was read may be written, with other macroblocks of its shape too
+pub under_read : (sets : SetMaps) (header : ℕ) (bits : List Bool) (h : Header) (mbs others : List Mb) → IsSliceRead sets header bits h mbs → ((active : Active) → Names sets h.pic_parameter_set_id active → AreOfSlice (shape_of active h) others)
+    → (active : Active) × IsUnderSets sets active h others
+under_read sets header bits h mbs others r are =
+    let is = r.1 in
+    let f = header-found sets header bits is.rest h is.header_is in
+    let same = names-once sets h.pic_parameter_set_id f.active r.0 f.names is.names in
+    let F : Active → Type 0 = λ a. HeaderFits a h in
+    (r.0, record { names = is.names; fits = subst F same f.fits; built = not_unbuilt Cavlc r.0 h is.built; are = are r.0 is.names })
+
+pub may_be_written : (sets : SetMaps) (header : ℕ) (bits : List Bool) (h : Header) (mbs : List Mb) → IsSliceRead sets header bits h mbs → (active : Active) × IsUnderSets sets active h mbs
+may_be_written sets header bits h mbs r =
+    let is = r.1 in
+    let A : Active → Type 0 = λ a. AreOfSlice (shape_of a h) mbs in
+    under_read sets header bits h mbs mbs r (λ active names. subst A (names-once sets h.pic_parameter_set_id r.0 active is.names names) is.list.are)
+
+pub under_built : (sets : SetMaps) (active : Active) (h : Header) (mbs : List Mb) (shape : SliceShape) → IsUnderSets sets active h mbs → IsShape sets h shape → AreSets sets h → IsBuiltShape shape × AreOfSlice shape mbs
+under_built sets active h mbs shape u is range =
+    let A : SliceShape → Type 0 = λ s. AreOfSlice s mbs in
+    let same = sym (is active u.names) in
+    (subst IsBuiltShape same (built_shape active h (range active u.names) u.fits u.built), subst A same u.are)
+
+-- ## Reading and writing
+
+pub no_copy : (shape : SliceShape) (pos : ℕ) (left : List Bool) (fault : SliceFault) → Refuses shape pos left fault → IsNoCopy shape pos left (fault_of_data fault)
+no_copy shape pos left macroblocks.NoReading h = (refl, h)
+no_copy shape pos left macroblocks.Memory h = tt
+
+-- the end of the data that were read
+pub data_ended : {K : Type 0} (bits : K → List Bool) (writer : CavlcWriter K) (shape : SliceShape) (pos : ℕ) (all before : List Bool) (done : List Mb) (stop : Option (Case × ℕ)) (count : ℕ) (result : Result (K × ℕ) RewriteFault) → HasText shape done
+    → all ≡ slice_text shape pos done → least_stop Cavlc shape done ≡ stop → (stop ≡ None → WritesFor bits writer shape before (map (written_mb Cavlc) done)) → length done ≡ count → Ends bits writer stop count result
+    → IfOk result (λ copy. IsCopy shape pos all before (bits copy.0) copy.1)
+data_ended bits writer shape pos all before done None count (Ok copy) text read stop_is writes counted e =
+    record { mbs = done; list = text; read = read; goes_on = stop_is; written = e.1 shape before (map (written_mb Cavlc) done) (writes refl); counted = e.0 ∙ sym counted }
+data_ended bits writer shape pos all before done None count (Err fault) text read stop_is writes counted e = tt
+data_ended bits writer shape pos all before done (Some stop) count (Ok copy) text read stop_is writes counted e = absurd cc
+data_ended bits writer shape pos all before done (Some stop) count (Err fault) text read stop_is writes counted e = tt
+
+pub data_stopped : {K : Type 0} (bits : K → List Bool) (writer : CavlcWriter K) (shape : SliceShape) (pos : ℕ) (all : List Bool) (done : List Mb) (stop : Option (Case × ℕ)) (count : ℕ) (result : Result (K × ℕ) RewriteFault) → HasText shape done
+    → all ≡ slice_text shape pos done → least_stop Cavlc shape done ≡ stop → Ends bits writer stop count result → IfErr result (IsNoCopy shape pos all)
+data_stopped bits writer shape pos all done None count (Ok copy) text read stop_is e = tt
+data_stopped bits writer shape pos all done None count (Err fault) text read stop_is e = subst (IsNoCopy shape pos all) (sym e) tt
+data_stopped bits writer shape pos all done (Some stop) count result text read stop_is e =
+    let P : Result _ RewriteFault → Type 0 = λ r. IfErr r (IsNoCopy shape pos all) in
+    subst P (sym e) (done, text, read, stop_is)
+
+is_cavlc : {A : Type 0} → mode_flag_of Cabac ≡ false → A
+is_cavlc e = absurd cc
+
+pub not_copied : (to : Layer) (sets : SetMaps) (header : ℕ) (bits taken rest : List Bool) (h : Header) (shape : SliceShape) (fault : RewriteFault) → mode_flag_of to ≡ false → IsOpened to sets header bits h taken rest → IsShape sets h shape
+    → IsNoCopy shape (length taken) rest fault → IsSliceRefusal to sets header bits fault
+not_copied Cabac sets header bits taken rest h shape fault e r is none = is_cavlc e
+not_copied Cavlc sets header bits taken rest h shape (Outside why) e r is none = data_refused Cavlc sets header bits taken rest h shape why r is none.0 none.1
+not_copied Cavlc sets header bits taken rest h shape (Stop case k) e r is none =
+    let s = slice_opened Cavlc sets header bits taken rest h shape none.0 r is none.1 none.2 in
+    (coded s.0 h none.0, s.2, ap (λ x. least_stop Cavlc x none.0) (sym (is s.0 s.1)) ∙ none.3)
+not_copied Cavlc sets header bits taken rest h shape Memory e r is none = tt
+
+pub copied : (to : Layer) (number : ℕ) (sets : SetMaps) (header : ℕ) (bits taken rest : List Bool) (h : Header) (shape : SliceShape) (start out after : List Bool) (payload : List ℕ) (count : ℕ) → mode_flag_of to ≡ false
+    → IsOpened to sets header bits h taken rest → IsShape sets h shape → start ≡ []
+    → ((a : Active) → Names sets h.pic_parameter_set_id a → Appended start out (header_text (active_in to number a) (header_in to number 0 h)))
+    → IsCopy shape (length taken) rest out after count → bits_of payload ≡ after → IsSliceForm to number sets header bits payload count
+copied Cabac number sets header bits taken rest h shape start out after payload count e r is none put k bytes = is_cavlc e
+copied Cavlc number sets header bits taken rest h shape start out after payload count e r is none put k bytes =
+    let s = slice_opened Cavlc sets header bits taken rest h shape k.mbs r is k.list k.read in
+    record {
+      slice = coded s.0 h k.mbs;
+      read = s.2;
+      goes_on = ap (λ x. least_stop Cavlc x k.mbs) (sym (is s.0 s.1)) ∙ k.goes_on;
+      written = payload_written Cavlc number 0 s.0 h k.mbs shape out after payload (is s.0 s.1) (header_written Cavlc number 0 s.0 h start out none (put s.0 s.1)) k.written bytes;
+      count = k.counted;
+    }
+
+-- under the number of the set that it names, a slice is written as it stands in the layer
+pub written_under_own : (to : Layer) (number : ℕ) (sets : SetMaps) (header : ℕ) (bits : List Bool) (payload : List ℕ) (macroblocks : ℕ) (f : IsSliceForm to number sets header bits payload macroblocks)
+    → ((h : Header) (rest : List Bool) → HeaderText sets header h bits rest → number ≡ h.pic_parameter_set_id) → bits_of payload ≡ slice_bits (slice_in to f.slice)
+written_under_own to number sets header bits payload macroblocks f own =
+    f.written ∙ ap (λ n. slice_bits (slice_under to n 0 f.slice)) (own f.slice.header f.read.rest f.read.header_is)
+
+-- the wanted layer of a slice whose header was read so
+pub wanted : (to : Layer) (sets : SetMaps) (header : ℕ) (bits taken rest : List Bool) (h : Header) → IsOpened to sets header bits h taken rest → mode_flag_of to ≡ false
+wanted to sets header bits taken rest h r = let f = header-found sets header bits rest h r.text in (fit to f.active h (r.built f.active f.names)).wanted
+
+pub refused_as : (to : Layer) (sets : SetMaps) (header : ℕ) (bits : List Bool) (fault : RewriteFault) → IsNotOpened to sets header bits fault → IsSliceRefusal to sets header bits fault
+refused_as to sets header bits (Outside why) h = h
+refused_as to sets header bits (Stop case k) h = absurd h
+refused_as to sets header bits Memory h = tt

@@ -1,0 +1,144 @@
+-- What is written for a slice, and why nothing is.
+use Rattle.std.specs.Prelude.{◌≡◌, ℕ, Bool, false, List, [], ◌∷◌, ◌++◌, length, map, Option, Some, None, Result, Ok, Err}
+use Rattle.bit_texts.specs.Bits.{bits_of}
+use Rattle.cavlc_syntax.specs.SliceText.{IsBuilt, AreOfSlice, HasText, slice_text, NoList}
+use Rattle.cavlc_syntax.specs.Written.{WritesFor}
+use Rattle.cavlc_syntax.specs.declared.fault.SliceFault.{SliceFault}
+use Rattle.cavlc_syntax.specs.declared.fault.SliceFault.TheVariants as macroblocks
+use Rattle.cavlc_syntax.specs.declared.writer.CavlcWriter.{CavlcWriter}
+use Rattle.h264_types.specs.declared.fault.Case.{Case}
+use Rattle.h264_types.specs.declared.fault.Why.TheVariants.{Profile as BadProfile, Header as BadHeader, MissingSps, MissingPps, Slice as BadSlice}
+use Rattle.h264_types.specs.declared.layer.Layer.{Layer}
+use Rattle.h264_types.specs.declared.layer.Layer.TheVariants.{Cavlc}
+use Rattle.h264_types.specs.declared.macroblock.Mb.{Mb}
+use Rattle.h264_types.specs.declared.slice_shape.SliceShape.{SliceShape}
+use Rattle.param_sets.specs.Sets.{SetMaps}
+use Rattle.slice_header.specs.HeaderCodes.{HeaderFits, HeaderText, IsUnder, Names}
+use Rattle.slice_header.specs.Shape.{shape_of}
+use Rattle.header_parts.specs.ActiveSets.{Active}
+use Rattle.header_parts.specs.declared.fault.HeaderFault.{HeaderFault}
+use Rattle.header_parts.specs.declared.fault.HeaderFault.TheVariants as headers
+use Rattle.header_parts.specs.declared.header.Header.{Header}
+use Rattle.slice_rewrite.specs.declared.fault.RewriteFault.{RewriteFault}
+use Rattle.slice_rewrite.specs.declared.fault.RewriteFault.TheVariants.{Outside, Stop, Memory}
+use Rattle.slice_rewrite.specs.declared.put.WriteFault.{WriteFault}
+use Rattle.slice_rewrite.specs.declared.put.WriteFault.TheVariants as put
+use Rattle.slice_rewrite.specs.Items.{Slice, is_unbuilt, IsSliceOf}
+use Rattle.slice_rewrite.specs.Stops.{mb_stop, least_stop, slice_stop}
+use Rattle.slice_rewrite.specs.Verdict.{IsNoSlice}
+use Rattle.slice_rewrite.specs.Written.{written_mb, slice_under, slice_bits}
+
+-- ## Whole slices
+
+-- the bits are those of a slice that can be written, this payload is written for it, and so many macroblocks it has
+pub record IsSliceForm (to : Layer) (number : ℕ) (sets : SetMaps) (header : ℕ) (bits : List Bool) (payload : List ℕ) (macroblocks : ℕ) : Type 0 where
+  pub slice : Slice
+  pub read : IsSliceOf to sets header bits slice
+  pub goes_on : slice_stop to slice ≡ None
+  pub written : bits_of payload ≡ slice_bits (slice_under to number 0 slice)
+  pub count : macroblocks ≡ length slice.mbs
+
+-- the bits are those of no slice, or of one whose least macroblock that can't be written is this, or there is no memory
+abbrev pub IsSliceRefusal : Layer → SetMaps → ℕ → List Bool → RewriteFault → Type 0
+IsSliceRefusal to sets header bits (Outside why) = IsNoSlice to sets header bits why
+IsSliceRefusal to sets header bits (Stop case k) = (slice : Slice) × IsSliceOf to sets header bits slice × (slice_stop to slice ≡ Some (case, k))
+IsSliceRefusal to sets header bits Memory = Unit {0}
+
+-- a slice of these parts
+abbrev pub coded : Active → Header → List Mb → Slice
+coded active h mbs = record { header = h; active = active; mbs = mbs }
+
+-- the bits are those of the slice of this header and these macroblocks, under the sets that it names
+abbrev pub IsSliceRead : SetMaps → ℕ → List Bool → Header → List Mb → Type 0
+IsSliceRead sets header bits h mbs = (active : Active) × IsSliceOf Cavlc sets header bits (coded active h mbs)
+
+-- the bits are those of no slice, or there is no memory
+abbrev pub IsNotOpened : Layer → SetMaps → ℕ → List Bool → RewriteFault → Type 0
+IsNotOpened to sets header bits (Outside why) = IsNoSlice to sets header bits why
+IsNotOpened to sets header bits (Stop case k) = ⊥
+IsNotOpened to sets header bits Memory = Unit {0}
+
+-- the header of a slice whose data can be read was read, and these bits are left behind it
+pub record IsOpened (to : Layer) (sets : SetMaps) (header : ℕ) (bits : List Bool) (h : Header) (taken rest : List Bool) : Type 0 where
+  pub text : HeaderText sets header h bits rest
+  pub under : IsUnder sets h
+  pub built : (active : Active) → Names sets h.pic_parameter_set_id active → is_unbuilt to active h ≡ false
+  pub kept : taken ++ rest ≡ bits
+
+-- a slice under these sets: its header is in range, and the macroblocks are those of a slice of its shape
+pub record IsUnderSets (sets : SetMaps) (active : Active) (h : Header) (mbs : List Mb) : Type 0 where
+  pub names : Names sets h.pic_parameter_set_id active
+  pub fits : HeaderFits active h
+  pub built : IsBuilt (shape_of active h)
+  pub are : AreOfSlice (shape_of active h) mbs
+
+-- the payload that is written for it, where it can be written
+pub record IsSliceWritten (to : Layer) (number idc : ℕ) (s : Slice) (payload : List ℕ) : Type 0 where
+  pub goes_on : slice_stop to s ≡ None
+  pub written : bits_of payload ≡ slice_bits (slice_under to number idc s)
+
+-- the least macroblock that can't be written is this, or there is no memory
+abbrev pub IsNotWritten : Layer → Slice → RewriteFault → Type 0
+IsNotWritten to s (Outside why) = ⊥
+IsNotWritten to s (Stop case k) = slice_stop to s ≡ Some (case, k)
+IsNotWritten to s Memory = Unit {0}
+
+-- ## Slice data
+
+-- the bits left, with so many before them, are the data of a slice that can be written, which were written again behind others
+pub record IsCopy (shape : SliceShape) (pos : ℕ) (left before after : List Bool) (count : ℕ) : Type 0 where
+  pub mbs : List Mb
+  pub list : HasText shape mbs
+  pub read : left ≡ slice_text shape pos mbs
+  pub goes_on : least_stop Cavlc shape mbs ≡ None
+  pub written : after ≡ before ++ slice_text shape (length before) (map (written_mb Cavlc) mbs)
+  pub counted : count ≡ length mbs
+
+-- they are those of a slice that stops so, or of none, or there is no memory
+abbrev pub IsNoCopy : SliceShape → ℕ → List Bool → RewriteFault → Type 0
+IsNoCopy shape pos left (Outside why) = (why ≡ BadSlice) × NoList shape pos left
+IsNoCopy shape pos left (Stop case k) = (mbs : List Mb) × HasText shape mbs × (left ≡ slice_text shape pos mbs) × (least_stop Cavlc shape mbs ≡ Some (case, k))
+IsNoCopy shape pos left Memory = Unit {0}
+
+-- the data are those of no slice, or there is no memory
+abbrev pub IsNoDataRead : SliceShape → ℕ → List Bool → RewriteFault → Type 0
+IsNoDataRead shape pos left (Outside why) = (why ≡ BadSlice) × NoList shape pos left
+IsNoDataRead shape pos left (Stop case k) = ⊥
+IsNoDataRead shape pos left Memory = Unit {0}
+
+-- these macroblocks can be written, and their data were, behind others
+pub record IsDataWritten (shape : SliceShape) (mbs : List Mb) (before after : List Bool) : Type 0 where
+  pub goes_on : least_stop Cavlc shape mbs ≡ None
+  pub written : after ≡ before ++ slice_text shape (length before) (map (written_mb Cavlc) mbs)
+
+-- the least of them that can't be written is this, or there is no memory
+abbrev pub IsNoDataWritten : SliceShape → List Mb → RewriteFault → Type 0
+IsNoDataWritten shape mbs (Outside why) = ⊥
+IsNoDataWritten shape mbs (Stop case k) = least_stop Cavlc shape mbs ≡ Some (case, k)
+IsNoDataWritten shape mbs Memory = Unit {0}
+
+-- what the end of slice data says: the writer's data were ended, or the stop is told
+abbrev pub Ends : {B : Type 0} → (B → List Bool) → CavlcWriter B → Option (Case × ℕ) → ℕ → Result (B × ℕ) RewriteFault → Type 0
+Ends bits writer None count (Ok copy) = (copy.1 ≡ count)
+    × ((shape : SliceShape) (before : List Bool) (done : List Mb) → WritesFor bits writer shape before done → bits copy.0 ≡ before ++ slice_text shape (length before) done)
+Ends bits writer None count (Err fault) = fault ≡ Memory
+Ends bits writer (Some stop) count result = result ≡ Err (Stop stop.0 stop.1)
+
+-- what putting a macroblock in its written form says: it was put, or it can't be written, or there is no memory
+abbrev pub PutsWritten : {B : Type 0} → (B → List Bool) → CavlcWriter B → SliceShape → List Bool → List Mb → Mb → Result (Unit {0}) WriteFault → Type 0
+PutsWritten bits new shape before done mb (Ok x) = (mb_stop Cavlc shape mb ≡ None) × WritesFor bits new shape before (done ++ written_mb Cavlc mb ∷ [])
+PutsWritten bits new shape before done mb (Err (put.Stop case)) = mb_stop Cavlc shape mb ≡ Some case
+PutsWritten bits new shape before done mb (Err put.Memory) = Unit {0}
+
+-- ## Faults of the layers below
+
+abbrev pub fault_of_header : HeaderFault → RewriteFault
+fault_of_header headers.NoReading = Outside BadHeader
+fault_of_header (headers.MissingPps number) = Outside (MissingPps number)
+fault_of_header (headers.MissingSps number) = Outside (MissingSps number)
+fault_of_header headers.Profile = Outside BadProfile
+fault_of_header headers.Memory = Memory
+
+abbrev pub fault_of_data : SliceFault → RewriteFault
+fault_of_data macroblocks.NoReading = Outside BadSlice
+fault_of_data macroblocks.Memory = Memory

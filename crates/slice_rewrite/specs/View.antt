@@ -1,0 +1,81 @@
+-- What two streams say when they say the same: all but how their slices are coded, the promises of their sequence
+-- parameter sets about that, and their picture parameter sets, but for what the slices hold of them, without numbers.
+use Rattle.std.specs.Prelude.{◌≡◌, ℕ, ℤ, pos, false, List, [], ◌∷◌, map, None}
+use Rattle.std.specs.List.{AllByRecursion}
+use Rattle.h264_types.specs.Qp.{next_qp}
+use Rattle.h264_types.specs.Units.{Splits}
+use Rattle.h264_types.specs.declared.layer.Layer.{Layer}
+use Rattle.h264_types.specs.declared.layer.Layer.TheVariants.{Cavlc}
+use Rattle.h264_types.specs.declared.macroblock.Mb.{Mb}
+use Rattle.param_sets.specs.PpsCodes.{mode_flag_of, pps_in}
+use Rattle.param_sets.specs.SpsCodes.{without_constraints}
+use Rattle.param_sets.specs.declared.pps.Pps.{Pps}
+use Rattle.param_sets.specs.declared.sps.Sps.{Sps}
+use Rattle.pattern_fix.specs.NormalPattern.{normal}
+use Rattle.slice_header.specs.Shape.{shape_of}
+use Rattle.header_parts.specs.declared.header.Header.{Header}
+use Rattle.slice_rewrite.specs.Items.{Slice, Item, Carried, TheSps, ThePps, TheSlice, AreItems}
+use Rattle.slice_rewrite.specs.Stops.{slice_stop}
+
+-- each macroblock with its quantiser QPY in the place of mb_qp_delta (7-37), behind a macroblock of this QPY; P_8x8ref0
+-- is P_8x8 with four reference indices 0
+abbrev pub with_qp : ℤ → List Mb → List (ℤ × Mb)
+with_qp qp [] = []
+with_qp qp (mb ∷ mbs) = let next = next_qp qp mb.qp_delta in (next, record mb { qp_delta = pos 0; ref0 = false }) ∷ with_qp next mbs
+
+-- a slice, with the contents of its sets, and its macroblocks with the patterns that both layers can say (7.3.5)
+pub record SliceView : Type 0 where
+  pub header : Header
+  pub sps : Sps
+  pub pps : Pps
+  pub mbs : List (ℤ × Mb)
+
+abbrev pub slice_view : Slice → SliceView
+slice_view s = record {
+  header = record s.header { pic_parameter_set_id = 0; cabac_init_idc = 0 };
+  sps = without_constraints s.active.sps;
+  pps = pps_in Cavlc 0 s.active.pps;
+  mbs = with_qp (pos (shape_of s.active s.header).qp) (map normal s.mbs);
+}
+
+pub data ViewItem : Type 0 where
+  CarriedView : List ℕ → ViewItem
+  SpsView : ℕ → Sps → ViewItem
+  TheSliceView : SliceView → ViewItem
+
+-- the carried units, the sequence parameter sets and the slices, in order
+abbrev pub view : List Item → List ViewItem
+view [] = []
+view (Carried unit ∷ items) = CarriedView unit ∷ view items
+view (TheSps header sps ∷ items) = SpsView header (without_constraints sps) ∷ view items
+view (ThePps header pps ∷ items) = view items
+view (TheSlice s ∷ items) = TheSliceView (slice_view s) ∷ view items
+
+-- ## Whole streams
+
+-- these bytes are read as these items, for this layer
+abbrev pub Reads : Layer → List ℕ → List Item → Type 0
+Reads to b items = (units : List (List ℕ)) × Splits b units None × AreItems to [] units items
+
+-- the item is no slice, or one that can be written in this layer
+abbrev pub IsWritable : Layer → Item → Type 0
+IsWritable to (TheSlice s) = slice_stop to s ≡ None
+IsWritable to _ = Unit {0}
+
+-- each slice can be written in this layer
+abbrev pub CanBeWritten : Layer → List Item → Type 0
+CanBeWritten to items = AllByRecursion (IsWritable to) items
+
+-- each slice is in this layer
+abbrev pub AreInLayer : Layer → List Item → Type 0
+AreInLayer to [] = Unit {0}
+AreInLayer to (TheSlice s ∷ items) = (s.active.pps.entropy_coding_mode_flag ≡ mode_flag_of to) × AreInLayer to items
+AreInLayer to (_ ∷ items) = AreInLayer to items
+
+-- Recoded for the layer, the stream of these items gives bytes that have a reading, with every slice in the layer, and
+-- they say the same.
+pub record SaysTheSame (to : Layer) (items : List Item) (bytes : List ℕ) : Type 0 where
+  pub back : List Item
+  pub reads : Reads to bytes back
+  pub layer : AreInLayer to back
+  pub same : view back ≡ view items

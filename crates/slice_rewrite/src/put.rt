@@ -1,0 +1,47 @@
+// Macroblocks in their written form.
+ghost use Rattle.std.specs.Prelude.{◌≡◌, ◌++◌, List, Bool};
+ghost use Rattle.cavlc_syntax.specs.Written.{WritesFor, MayPut};
+ghost use Rattle.h264_types.specs.declared.layer.Layer.TheVariants.{Cavlc};
+ghost use Rattle.h264_types.specs.declared.macroblock.Mb.{Mb};
+ghost use Rattle.h264_types.specs.declared.slice_shape.SliceShape.{SliceShape};
+ghost use Rattle.h264_types.specs.Valid.{is_ref0};
+ghost use Rattle.pattern_fix.specs.NormalPattern.{IsEmptied};
+ghost use Rattle.slice_rewrite.specs.SliceForms.{PutsWritten};
+ghost use Rattle.slice_rewrite.specs.Written.{written_mb};
+
+use cavlc_syntax::{CavlcWriter, PutFault};
+use exp_golomb::BitSink;
+use h264_types::{Case, Mb, MbKind};
+use pattern_fix::normalise;
+
+/// Why a macroblock wasn't put.
+#[derive(Clone, Copy, Debug, PartialEq, Eq)]
+pub enum WriteFault {
+    /// It can't be written.
+    Stop(Case),
+    /// Memory ran out.
+    Memory,
+}
+
+/// Puts a macroblock in its written form, which it is left in.
+pub fn put_written<K: BitSink>(writer: &mut CavlcWriter<K>, mb: &mut Mb) -> Result<(), WriteFault>
+    requires { (IsEmptied mb.old → ⊥) → MayPut K.bits writer.old (written_mb Cavlc mb.old) }
+    ensures { (shape : SliceShape) (before : List Bool) (done : List Mb) → WritesFor K.bits writer.old shape before done → PutsWritten K.bits writer.new shape before done mb.old result }
+{
+    let Ok(()) = normalise(mb) else {
+        return Err(WriteFault::Stop(Case::Empty));
+    };
+    mb.ref0 = is_p_8x8ref0(mb);
+    match writer.put(mb) {
+        Ok(()) => Ok(()),
+        Err(PutFault::Beyond) => Err(WriteFault::Stop(Case::Level)),
+        Err(PutFault::Memory) => Err(WriteFault::Memory),
+    }
+}
+
+/// Whether P_8x8ref0 says the same as this type and its reference indices (Table 7-13).
+fn is_p_8x8ref0(mb: &Mb) -> bool
+    ensures { result ≡ is_ref0 mb.now }
+{
+    matches!(mb.kind, MbKind::P(3)) && mb.refs[0].iter().all(|index| *index == 0)
+}

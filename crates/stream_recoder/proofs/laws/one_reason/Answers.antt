@@ -1,5 +1,0 @@
-use Rattle.stream_recoder.proofs.Reasons.{not-refused, refused-once}
-use Rattle.stream_recoder.proofs.laws.one_reason.Goals as goal
-
-pub returns : goal.returns
-returns c = record { item = not-refused; reason = refused-once }
