@@ -10,7 +10,7 @@ use crate::fault::{RewriteFault, fault_of_header};
 use exp_golomb::SliceBits;
 use h264_types::{Layer, Why};
 use param_sets::Sets;
-use slice_header::{Header, read_header};
+use slice_header::{Header, layer_of, read_header, shape};
 use std::alloc::Global;
 
 /// Reads the header of a slice that is to be written in a layer, and gives the bits behind it too.
@@ -42,13 +42,6 @@ fn is_unbuilt(sets: &Sets, h: &Header, to: Layer) -> bool
     requires { IsUnder sets.now h.now }
     ensures { (active : Active) → Names sets.now h.now.pic_parameter_set_id active → result ≡ is_unbuilt to active h.now }
 {
-    let Some(pps) = sets.pps(h.pic_parameter_set_id as u8) else {
-        unreachable!();
-    };
-    let Some(sps) = sets.sps(pps.seq_parameter_set_id as u8) else {
-        unreachable!();
-    };
-    let mbaff = sps.mb_adaptive_frame_field_flag && !h.field_pic_flag;
-    let cabac = pps.entropy_coding_mode_flag || matches!(to, Layer::Cabac);
-    mbaff || cabac
+    let cabac = matches!(layer_of(sets, h), Layer::Cabac) || matches!(to, Layer::Cabac);
+    shape(sets, h).mbaff || cabac
 }
