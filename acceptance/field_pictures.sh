@@ -10,6 +10,13 @@
 # status is 0. Else it is 0 where all went well, 1 where the program fell short, and 2 where something could not be tried.
 . "$(dirname "$0")/streams.sh"
 
+# shown FILE: the checksums alone. The stream has no times, and those that ffmpeg guesses for fields among frames rest on the
+# number of zero bytes in front of a unit.
+shown() {
+    ffmpeg -v warning -nostdin -threads 1 -flags2 +ignorecrop -f h264 -i "$1" -fps_mode passthrough -f framemd5 - 2>&1 |
+        sed 's/^0,[^,]*,[^,]*,/0,/'
+}
+
 # changed: what is wrong with the output, of which the report is due but for the number of bytes; nothing where all is well
 changed() {
     local due
