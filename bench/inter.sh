@@ -9,20 +9,8 @@
 # Wants x264 and ffmpeg, the Debian packages of these names, python3 (3.8 or later), and rt in the first form. It runs on
 # Linux alone, for it reads the peak memory in /proc. The stream, one output and the bytes that are due stand in a temporary
 # folder (TMPDIR, or /tmp), which needs room for 170 MB.
-set -euo pipefail
-for tool in x264 ffmpeg; do
-    command -v "$tool" >/dev/null || { echo "$0: the Debian package $tool is wanted and isn't there" >&2; exit 2; }
-done
-. "$(dirname "$0")/program.sh"
+. "$(dirname "$0")/encoder.sh"
 
-width=1280 height=720 frames=120 slices=4
-# Fine and coarse detail that moves, with some noise. The part has two IDR pictures, so that idr_pic_id changes where the
-# next part begins.
-detail="mandelbrot=size=${width}x$height:rate=25[fine];testsrc2=size=${width}x$height:rate=25[coarse];
-    [fine][coarse]blend=all_mode=average,scroll=horizontal=0.003:vertical=0.002,noise=alls=6:allf=t"
-ffmpeg -v error -nostdin -filter_complex "$detail" -frames:v $frames -pix_fmt yuv420p -f yuv4mpegpipe - |
-    x264 --log-level error --no-progress --threads 4 --profile high --no-cabac --8x8dct --keyint $((frames / 2)) \
-        --no-scenecut --bframes 3 --b-adapt 0 --ref 3 --partitions all --weightp 2 --direct auto --crf 20 \
-        --slices $slices --demuxer y4m -o "$room/part.264" - 2>"$room/encoder" || { cat "$room/encoder" >&2; exit 2; }
-
-python3 "$here/encoded.py" "$program" "$room" $width $height $frames $slices
+# A part of the stream has two IDR pictures, so that idr_pic_id changes where the next part begins.
+measure_encoded 120 "scroll=horizontal=0.003:vertical=0.002," --8x8dct --keyint 60 --no-scenecut --bframes 3 --b-adapt 0 \
+    --ref 3 --partitions all --weightp 2 --direct auto
