@@ -1,4 +1,5 @@
 pub mod Firsts
+pub mod FirstBlocks
 pub mod Elements
 pub mod Codes
 pub mod SubLaws

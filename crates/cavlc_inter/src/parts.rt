@@ -1,5 +1,5 @@
 ghost use Rattle.std.specs.Prelude.{◌≡◌, ◌<◌};
-ghost use Rattle.h264_types.specs.Partition.{partition_of, part_of};
+ghost use Rattle.h264_types.specs.Partition.{partition_of, sub_part, part_of};
 ghost use Rattle.cavlc_inter.specs.Parts.{first_of};
 ghost use Rattle.cavlc_inter.specs.InterPrediction as inter;
 
@@ -18,25 +18,27 @@ impl Parts {
         requires { q < 4 }
         ensures { result ≡ first_of (partition_of self.now.kind) q }
     {
+        let partition = self.kind.partition(q);
         for r in 0..q {
-            if self.kind.partition(r) == self.kind.partition(q) {
+            if self.kind.partition(r) == partition {
                 return r;
             }
         }
         q
     }
 
-    /// A number that the blocks of one part share.
-    fn part(&self, n: u8) -> u8
-        requires { n < 16 }
-        ensures { result ≡ part_of self.now.kind self.now.subs n }
+    /// The first block of the sub-macroblock partition that has block k of a quarter whose sub_mb_type is `sub`.
+    fn first_in_quarter(&self, sub: u8, k: u8) -> u8
+        requires { k < 4 }
+        ensures { result ≡ first_of (sub_part self.now.kind sub) k }
     {
-        let partition = 4 * self.kind.partition(n / 4);
-        if self.kind.has_sub_macroblocks() {
-            let sub = self.subs[usize::from(n / 4)];
-            return partition + self.kind.sub_partition(sub, n % 4);
+        let part = self.kind.sub_partition(sub, k);
+        for m in 0..k {
+            if self.kind.sub_partition(sub, m) == part {
+                return m;
+            }
         }
-        partition
+        k
     }
 
     /// The first block of the part that has block n.
@@ -44,12 +46,12 @@ impl Parts {
         requires { n < 16 }
         ensures { result ≡ first_of (part_of self.now.kind self.now.subs) n }
     {
-        for m in 0..n {
-            if self.part(m) == self.part(n) {
-                return m;
-            }
+        let quarter = n / 4;
+        if self.kind.has_sub_macroblocks() {
+            let sub = self.subs[usize::from(quarter)];
+            return 4 * quarter + self.first_in_quarter(sub, n % 4);
         }
-        n
+        4 * self.first_quarter(quarter)
     }
 
     /// Whether a quarter is predicted from list 0 or 1 by what is sent.
@@ -66,7 +68,7 @@ impl Parts {
         requires { q < 4 }
         ensures { result ≡ inter.sends_ref self.now list greatest q }
     {
-        self.first_quarter(q) == q && greatest > 0 && self.uses(list, q)
+        greatest > 0 && self.uses(list, q) && self.first_quarter(q) == q
     }
 
     /// Whether the vector difference of a list is sent at block n.
@@ -74,6 +76,6 @@ impl Parts {
         requires { n < 16 }
         ensures { result ≡ inter.sends_mvd self.now list n }
     {
-        self.first_block(n) == n && self.uses(list, n / 4)
+        self.uses(list, n / 4) && self.first_block(n) == n
     }
 }

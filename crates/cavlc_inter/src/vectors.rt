@@ -28,10 +28,10 @@ fn read_mvd<B: BitSource>(
     ensures kept { B.taken bits.new ++ B.left bits.new ≡ B.taken bits.old ++ B.left bits.old }
 {
     let n = before.len() as u8;
-    if parts.sends_mvd(list, n) {
+    let first = parts.first_block(n);
+    if first == n && parts.uses(list, n / 4) {
         return read_vector(bits);
     }
-    let first = parts.first_block(n);
     Some(before.get(usize::from(first)).copied().unwrap_or([0, 0]))
 }
 

@@ -5,12 +5,12 @@ use Rattle.cavlc_inter.proofs.parts.Parts.first_quarter.Goals as goal
 
 pub returns-then-partition : goal.returns-then-partition
 returns-then-partition c =
-    sym (c.loop-r.invariant.search_goes_on ∙ found (partition_of c.args.self.now.kind) c.args.q c.loop-r.r c.loop-r-test.true (sym c.partition.ensures ∙ c.if-partition.true ∙ c.partition-in-loop-r.ensures))
+    sym (c.loop-r.invariant.search_goes_on ∙ found (partition_of c.args.self.now.kind) c.args.q c.loop-r.r c.loop-r-test.true (sym c.partition.ensures ∙ c.if-partition.true ∙ c.partition-partition.ensures))
 
 pub loop-r-preserved : goal.loop-r-preserved
 loop-r-preserved c = record {
   inside = omega arith;
-  search_goes_on = c.loop-r.invariant.search_goes_on ∙ not_yet (partition_of c.args.self.now.kind) c.args.q c.loop-r.r c.loop-r-test.true (λ e. c.if-partition.false (c.partition.ensures ∙ e ∙ sym c.partition-in-loop-r.ensures));
+  search_goes_on = c.loop-r.invariant.search_goes_on ∙ not_yet (partition_of c.args.self.now.kind) c.args.q c.loop-r.r c.loop-r-test.true (λ e. c.if-partition.false (c.partition.ensures ∙ e ∙ sym c.partition-partition.ensures));
 }
 
 pub returns : goal.returns
