@@ -19,7 +19,8 @@ use Rattle.h264_types.specs.declared.partition.Prediction.{Prediction}
 use Rattle.h264_types.specs.declared.partition.Prediction.TheVariants.{Unsent}
 use Rattle.h264_types.specs.declared.slice_shape.SliceShape.{SliceShape}
 use Rattle.cavlc_inter.specs.declared.parts.Parts.{Parts}
-use Rattle.cavlc_inter.specs.InterPrediction.{AreSubs, AreSubsIf, uses, greatest_ref, has_ref, AreRefs, IsDifference, IsVector, no_vector, has_mvd, AreMvds, parts_of, refs_of, mvds_of, IsInter, HasLists, active_at, active_refs}
+use Rattle.h264_types.proofs.Lists.{HasLists}
+use Rattle.cavlc_inter.specs.InterPrediction.{AreSubs, AreSubsIf, uses, greatest_ref, has_ref, AreRefs, IsDifference, IsVector, no_vector, has_mvd, AreMvds, parts_of, refs_of, mvds_of, IsInter, active_at, active_refs}
 use Rattle.cavlc_inter.proofs.Codes.{two_are}
 use Rattle.cavlc_inter.proofs.Places.{elements_are, elements_repeat, Respects, element_there, element_absent}
 

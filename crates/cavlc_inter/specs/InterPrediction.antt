@@ -129,15 +129,6 @@ with_inter mb other = record mb { subs = other.subs; refs = other.refs; mvd = ot
 
 -- ---- validity
 
--- its lists are as long as those of any macroblock
-pub record HasLists (mb : Mb) : Type 0 where
-  pub subs : length mb.subs ≡ 4
-  pub refs : length mb.refs ≡ 2
-  pub refs_of : (x : ℕ) → x < 2 → length (slice_index_or mb.refs x []) ≡ 4
-  pub mvd : length mb.mvd ≡ 2
-  pub mvds_of : (x : ℕ) → x < 2 → length (slice_index_or mb.mvd x []) ≡ 16
-  pub vectors : (x n : ℕ) → x < 2 → n < 16 → length (slice_index_or (slice_index_or mb.mvd x []) n []) ≡ 2
-
 -- how many references of list x are active for a macroblock: in a field macroblock of a frame twice as many (7.4.5.1)
 abbrev pub active_at : SliceShape → Mb → ℕ → ℕ
 active_at shape mb x = slice_index shape.refs x * (if shape.mbaff && mb.field then 2 else 1)

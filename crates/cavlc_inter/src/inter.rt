@@ -7,7 +7,7 @@ use crate::refs::{read_refs, write_refs};
 use crate::subs::{read_subs_if, write_subs_if};
 use crate::vectors::{read_mvds, write_mvds};
 use exp_golomb::{BitSink, BitSource};
-use h264_types::{Mb, MbKind};
+use h264_types::{Mb, MbKind, has_sizes};
 use std::alloc::AllocError as Memory;
 
 /// The greatest reference index that is sent; 0, and none is, where one reference alone is active, and for P_8x8ref0.
@@ -16,11 +16,6 @@ fn greatest_ref(ref0: bool, active: u8) -> u8
 {
     if ref0 { 0 } else { active.saturating_sub(1) }
 }
-
-/// A list is as long as the array of its type.
-fn has_size<T: Copy, const N: usize>(list: &[T; N])
-    ensures { length list.now ≡ N }
-{}
 
 /// Reads the prediction of a macroblock of this type behind its mb_type, where `ref0` says whether that was P_8x8ref0, and
 /// so many references of each list are active, in a field macroblock of an MBAFF frame twice as many. Puts sub_mb_type,
@@ -38,8 +33,7 @@ pub fn read_inter<B: BitSource>(
 {
     let greatest0 = greatest_ref(ref0, active[0]);
     let greatest1 = greatest_ref(ref0, active[1]);
-    has_size(&mb.refs);
-    has_size(&mb.mvd);
+    has_sizes(mb);
     read_subs_if(bits, kind, &mut mb.subs)?;
     let parts = Parts {
         kind,

@@ -5,7 +5,8 @@ ghost use Rattle.h264_types.specs.declared.macroblock.MbKind.{MbKind};
 ghost use Rattle.h264_types.specs.declared.macroblock.Mb.{Mb};
 ghost use Rattle.h264_types.specs.declared.slice_shape.SliceShape.{SliceShape};
 ghost use Rattle.h264_types.specs.Valid.{IsInterPredicted, is_ref0};
-ghost use Rattle.cavlc_inter.specs.InterPrediction.{IsInter, inter_text, with_inter, HasLists, active_refs};
+ghost use Rattle.h264_types.specs.Sizes.{HasSizes};
+ghost use Rattle.cavlc_inter.specs.InterPrediction.{IsInter, inter_text, with_inter, active_refs};
 
 /// No text of a prediction begins that of another one of its type, and none is that of two.
 pub fn no_prediction_begins_another()
@@ -14,5 +15,5 @@ pub fn no_prediction_begins_another()
 
 /// The macroblocks whose prediction has a text are those of a valid prediction.
 pub fn valid_predictions_have_a_text()
-    ensures { (shape : SliceShape) (mb : Mb) → HasLists mb → (IsTrue mb.ref0 → IsTrue (is_ref0 mb)) → IsInterPredicted shape mb ↔ IsInter mb.kind mb.ref0 (active_refs shape mb) mb }
+    ensures { (shape : SliceShape) (mb : Mb) → HasSizes mb → (IsTrue mb.ref0 → IsTrue (is_ref0 mb)) → IsInterPredicted shape mb ↔ IsInter mb.kind mb.ref0 (active_refs shape mb) mb }
 {}

@@ -14,10 +14,12 @@ use Rattle.h264_types.specs.declared.macroblock.MbKind.{MbKind}
 use Rattle.h264_types.specs.declared.macroblock.Pattern.{Pattern}
 use Rattle.h264_types.specs.declared.slice_shape.SliceShape.{SliceShape}
 use Rattle.cavlc_inter.specs.Parts.{is_sent, repeated, IsElement, and_next, AreElements}
-use Rattle.cavlc_inter.specs.InterPrediction.{AreSubs, IsDifference, IsVector, no_vector, has_ref, has_mvd, parts_of, refs_of, mvds_of, greatest_of, active_refs, IsInter, HasLists}
+use Rattle.h264_types.proofs.Lists.{HasLists}
+use Rattle.cavlc_inter.specs.InterPrediction.{AreSubs, IsDifference, IsVector, no_vector, has_ref, has_mvd, parts_of, refs_of, mvds_of, greatest_of, active_refs, IsInter}
 use Rattle.cavlc_inter.proofs.SubLaws.{small_bound}
-use Rattle.cavlc_mb_residual.specs.MacroblockResidual.{HasSizes, IsResidual}
-use Rattle.cavlc_mb_residual.proofs.BeyondLaws.{two_all}
+use Rattle.h264_types.specs.Sizes.{HasSizes}
+use Rattle.cavlc_mb_residual.specs.MacroblockResidual.{IsResidual}
+use Rattle.h264_types.proofs.Lists.{two_all}
 use Rattle.cavlc_mb_residual.proofs.ResidualSearching.{Levels, AreAll, all_searched, all_are, residual_decided}
 use Rattle.cavlc_mb_residual.proofs.Searching.{Searches, Found, Decided, AreMany, images_searched, same_searched, conditions_searched, sums_searched, pairs_searched, below_searched, at_most_searched, between_searched, many_searched, same_decided, both_decided, most_decided, numbers_decided, bools_decided, signed_decided, lists_decided, when_decided, turns_decided}
 use Rattle.cavlc_macroblock.specs.Macroblock.{IsIPcm, i_pcm}
@@ -26,7 +28,8 @@ use Rattle.cavlc_macroblock.specs.MbType.{first_intra, type_of, IsTypeIn}
 use Rattle.cavlc_macroblock.specs.Reading.{IsPredicted, IsSent}
 use Rattle.cavlc_macroblock.proofs.Layers.{Typed, typed_of}
 use Rattle.cavlc_macroblock.proofs.TypeLaws.{in_slice, type_at, at_type, typed_again, most}
-use Rattle.cavlc_macroblock.proofs.ValidLaws.{from_modes, lists_of, sent_valid, some_bound}
+use Rattle.h264_types.proofs.Lists.{lists_of}
+use Rattle.cavlc_macroblock.proofs.ValidLaws.{from_modes, sent_valid, some_bound}
 
 -- ---- what is decided of the elements
 

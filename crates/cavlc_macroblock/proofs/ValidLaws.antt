@@ -19,9 +19,11 @@ use Rattle.h264_types.specs.declared.macroblock.MbKind.TheVariants as kinds
 use Rattle.h264_types.specs.declared.macroblock.MbKind.TheVariants.{Intra, Skip}
 use Rattle.h264_types.specs.declared.macroblock.Pattern.{Pattern}
 use Rattle.h264_types.specs.declared.slice_shape.SliceShape.{SliceShape}
-use Rattle.cavlc_inter.specs.InterPrediction.{HasLists, IsInter, active_refs, refs_of}
+use Rattle.h264_types.proofs.Lists.{lists_of}
+use Rattle.cavlc_inter.specs.InterPrediction.{IsInter, active_refs, refs_of}
 use Rattle.cavlc_inter.proofs.InterValid.{to_inter, from_inter}
-use Rattle.cavlc_mb_residual.specs.MacroblockResidual.{HasSizes, ac_of, is_beyond_mb}
+use Rattle.h264_types.specs.Sizes.{HasSizes}
+use Rattle.cavlc_mb_residual.specs.MacroblockResidual.{ac_of, is_beyond_mb}
 use Rattle.cavlc_mb_residual.specs.LumaBlocks as blocks
 use Rattle.cavlc_mb_residual.proofs.BeyondLaws.{each_turn}
 use Rattle.cavlc_mb_residual.proofs.ResidualUnique.{same_two}
@@ -51,7 +53,7 @@ not_16x16 mode some direct8 Skip subs e = refl
 not_16x16 mode some direct8 (kinds.P n) subs e = refl
 not_16x16 mode some direct8 (kinds.B n) subs e = refl
 
-has_transform : (shape : SliceShape) (mb : Mb) → (IsTrue mb.t8 → IsTrue (sends_t8 shape mb)) → HasTransform mb
+pub has_transform : (shape : SliceShape) (mb : Mb) → (IsTrue mb.t8 → IsTrue (sends_t8 shape mb)) → HasTransform mb
 has_transform shape mb h set = not_16x16 shape.t8_mode (not (mb.pattern.luma == 0)) shape.direct8 mb.kind mb.subs (h set)
 
 ref0_kind : (mb : Mb) (kind : MbKind) → IsTrue (is_ref0 (record mb { kind = kind })) → kind ≡ kinds.P 3
@@ -62,19 +64,6 @@ ref0_kind mb (kinds.P n) h = ap kinds.P (numbered n (list_all (λ index. index =
 ref0_kind mb (kinds.B n) h = absurd cc
 ref0_kind mb (Intra n) h = absurd cc
 ref0_kind mb Skip h = absurd cc
-
-pub lists_of : (mb : Mb) → HasSizes mb → HasLists mb
-lists_of mb sizes = record {
-  subs = sizes.subs;
-  refs = sizes.refs.0;
-  refs_of = λ x h. All-from_recursion (λ list. length list ≡ 4) mb.refs sizes.refs.1 x [] (omega (arith, h, sizes.refs.0));
-  mvd = sizes.mvd.0;
-  mvds_of = λ x h. (vectors x h).0;
-  vectors = λ x n h below. All-from_recursion (λ difference. length difference ≡ 2) (slice_index_or mb.mvd x []) (vectors x h).1 n [] (omega (arith, below, (vectors x h).0));
-}
-  where
-    vectors : (x : ℕ) → x < 2 → (length (slice_index_or mb.mvd x []) ≡ 16) × AllByRecursion (λ difference. length difference ≡ 2) (slice_index_or mb.mvd x [])
-    vectors x h = All-from_recursion (λ (list : List (List ℤ)). (length list ≡ 16) × AllByRecursion (λ difference. length difference ≡ 2) list) mb.mvd sizes.mvd.1 x [] (omega (arith, h, sizes.mvd.0))
 
 -- ---- elements, from their bounds and back
 

@@ -7,6 +7,7 @@ use Rattle.bit_texts.specs.Texts.{AreTurns}
 use Rattle.cavlc_residual.specs.Coefficients.{magnitude}
 use Rattle.h264_types.specs.declared.macroblock.Mb.{Mb}
 use Rattle.h264_types.specs.declared.macroblock.Pattern.{Pattern}
+use Rattle.h264_types.proofs.Lists.{two_all}
 use Rattle.cavlc_mb_residual.specs.Residual.{IsList, IsSixteen, counted, is_coded, IsLumaBlock, IsChromaBlock}
 use Rattle.cavlc_mb_residual.specs.LumaBlocks.{luma_blocks}
 use Rattle.cavlc_mb_residual.specs.MacroblockResidual.{max_of, dc_of, ac_of, has_chroma_dc, has_chroma_ac, IsResidual, AreSmallLevels, HasSmallLevels}
@@ -30,12 +31,6 @@ all_get P (x ∷ xs) zero all h = all.0
 all_get P (x ∷ xs) (suc i) all h = all_get P xs i all.1 (omega arith)
 
 -- ---- the levels of a macroblock are in range
-
-pub two_all : {A : Type 0} (P : A → Type 0) (d : A) (xs : List A) → length xs ≡ 2 → P (get_or xs 0 d) → P (get_or xs 1 d) → AllByRecursion P xs
-two_all P d [] e p q = absurd (omega (arith, e))
-two_all P d (x ∷ []) e p q = absurd (omega (arith, e))
-two_all P d (x ∷ y ∷ []) e p q = (p, (q, tt))
-two_all P d (x ∷ y ∷ z ∷ xs) e p q = absurd (omega (arith, e))
 
 all_append : (P : ℤ → Type 0) (xs ys : List ℤ) → AllByRecursion P xs → AllByRecursion P ys → AllByRecursion P (xs ++ ys)
 all_append P [] ys p q = q

@@ -6,7 +6,7 @@ use Rattle.std.proofs.lemmas.List.Elements.{All-from_recursion}
 use Rattle.h264_types.specs.Macroblock.{quarter_of, block_of, luma_block}
 use Rattle.h264_types.specs.declared.macroblock.Mb.{Mb}
 use Rattle.cavlc_mb_residual.specs.LumaBlocks.{sixteen, every_fourth, sent_block, luma_blocks}
-use Rattle.cavlc_mb_residual.specs.MacroblockResidual.{HasSizes}
+use Rattle.h264_types.specs.Sizes.{HasSizes}
 use Rattle.cavlc_mb_residual.proofs.Firsts.{length-sixteen, get_or-sixteen}
 
 -- list k of a quarter, and where level i of the quarter stands: which list, and which place there

@@ -7,7 +7,8 @@ use Rattle.h264_types.specs.declared.macroblock.Pattern.{Pattern}
 use Rattle.cavlc_mb_residual.specs.declared.counts.Around.{Around}
 use Rattle.cavlc_mb_residual.specs.Residual.{IsList, list_text, AreLumaBlocks, luma_text, AreChromaBlocks, chroma_text}
 use Rattle.cavlc_mb_residual.specs.LumaBlocks.{luma_blocks}
-use Rattle.cavlc_mb_residual.specs.MacroblockResidual.{max_of, dc_of, ac_of, has_chroma_dc, has_chroma_ac, luma_dc_text, residual_text, IsResidual, HasSizes, with_residual}
+use Rattle.h264_types.specs.Sizes.{HasSizes}
+use Rattle.cavlc_mb_residual.specs.MacroblockResidual.{max_of, dc_of, ac_of, has_chroma_dc, has_chroma_ac, luma_dc_text, residual_text, IsResidual, with_residual}
 use Rattle.cavlc_mb_residual.proofs.ResidualLaws.{IsPrefixFree-list, IsPrefixFree-luma_blocks, IsPrefixFree-chroma_blocks, max_shape}
 use Rattle.cavlc_mb_residual.proofs.Chain.{Reads-part, Reads-no_part}
 

@@ -11,8 +11,10 @@ use Rattle.h264_types.specs.declared.macroblock.Mb.{Mb}
 use Rattle.h264_types.specs.declared.macroblock.Pattern.{Pattern}
 use Rattle.cavlc_mb_residual.specs.LumaBlocks.{luma_blocks}
 use Rattle.cavlc_mb_residual.specs.Residual.{IsList, IsSixteen, counted, is_coded, IsLumaBlock, AreLumaBlocks, IsChromaBlock, AreChromaBlocks}
-use Rattle.cavlc_mb_residual.specs.MacroblockResidual.{HasSizes, max_of, dc_of, ac_of, has_chroma_dc, has_chroma_ac, IsResidual, AreSmallLevels}
-use Rattle.cavlc_mb_residual.proofs.BeyondLaws.{two_all, small_residual}
+use Rattle.h264_types.specs.Sizes.{HasSizes}
+use Rattle.cavlc_mb_residual.specs.MacroblockResidual.{max_of, dc_of, ac_of, has_chroma_dc, has_chroma_ac, IsResidual, AreSmallLevels}
+use Rattle.h264_types.proofs.Lists.{two_all}
+use Rattle.cavlc_mb_residual.proofs.BeyondLaws.{small_residual}
 use Rattle.cavlc_mb_residual.proofs.ResidualValid.{small_levels, luma_in_range}
 use Rattle.cavlc_mb_residual.proofs.Searching.{Searches, Decided, AreMany, pairs_searched, magnitudes_searched, many_searched, same_decided, both_decided, most_decided, numbers_decided, bools_decided, signed_decided, lists_decided, all_decided, many_decided, when_decided, turns_decided}
 

@@ -17,10 +17,12 @@ use Rattle.h264_types.specs.declared.macroblock.Mb.{Mb}
 use Rattle.h264_types.specs.declared.macroblock.Pattern.{Pattern}
 use Rattle.cavlc_mb_residual.specs.LumaBlocks.{every_fourth, sent_block, luma_blocks}
 use Rattle.cavlc_mb_residual.specs.Residual.{IsList, IsSixteen, counted, is_coded, IsLumaBlock, AreLumaBlocks, IsChromaBlock, AreChromaBlocks}
-use Rattle.cavlc_mb_residual.specs.MacroblockResidual.{HasSizes, IsResidual, AreSmallLevels, max_of, dc_of, ac_of, has_chroma_dc, has_chroma_ac, is_beyond_mb}
+use Rattle.h264_types.specs.Sizes.{HasSizes}
+use Rattle.cavlc_mb_residual.specs.MacroblockResidual.{IsResidual, AreSmallLevels, max_of, dc_of, ac_of, has_chroma_dc, has_chroma_ac, is_beyond_mb}
 use Rattle.cavlc_mb_residual.proofs.Firsts.{length-sixteen, get_or-sixteen}
 use Rattle.cavlc_mb_residual.proofs.Quarters.{list_in, list_of, place_in, list_below, place_below, length-list, level_of_turn, at_block, in_list, quarter_size, list_at}
-use Rattle.cavlc_mb_residual.proofs.BeyondLaws.{any_none, all_get, each_turn, two_all}
+use Rattle.h264_types.proofs.Lists.{two_all}
+use Rattle.cavlc_mb_residual.proofs.BeyondLaws.{any_none, all_get, each_turn}
 
 -- ---- lists of zeros
 

@@ -5,23 +5,12 @@ use Rattle.cavlc_residual.specs.Coefficients.{magnitude}
 use Rattle.cavlc_residual.specs.Block.{is_beyond}
 use Rattle.h264_types.specs.declared.macroblock.Mb.{Mb}
 use Rattle.h264_types.specs.declared.macroblock.Pattern.{Pattern}
+use Rattle.h264_types.specs.Sizes.{HasSizes}
 use Rattle.mb_neighbours.specs.declared.place.At.TheVariants.{Luma4}
 use Rattle.cavlc_mb_residual.specs.declared.counts.Around.{Around}
 use Rattle.cavlc_mb_residual.specs.Counts.{nC}
 use Rattle.cavlc_mb_residual.specs.LumaBlocks.{luma_blocks}
 use Rattle.cavlc_mb_residual.specs.Residual.{IsList, list_text, AreLumaBlocks, luma_text, AreChromaBlocks, chroma_text}
-
--- its lists are as long as those of any macroblock
-pub record HasSizes (mb : Mb) : Type 0 where
-  pub modes : length mb.modes ≡ 16
-  pub subs : length mb.subs ≡ 4
-  pub refs : (length mb.refs ≡ 2) × AllByRecursion (λ list. length list ≡ 4) mb.refs
-  pub mvd : (length mb.mvd ≡ 2) × AllByRecursion (λ list. (length list ≡ 16) × AllByRecursion (λ difference. length difference ≡ 2) list) mb.mvd
-  pub dc : length mb.dc ≡ 16
-  pub luma : (length mb.luma ≡ 4) × AllByRecursion (λ quarter. length quarter ≡ 64) mb.luma
-  pub chroma_dc : (length mb.chroma_dc ≡ 2) × AllByRecursion (λ list. length list ≡ 4) mb.chroma_dc
-  pub chroma_ac : (length mb.chroma_ac ≡ 2) × AllByRecursion (λ blocks. (length blocks ≡ 4) × AllByRecursion (λ block. length block ≡ 15) blocks) mb.chroma_ac
-  pub pcm : length mb.pcm ≡ 384
 
 -- the AC lists of I_16x16 have 15 levels
 abbrev pub max_of : Bool → ℕ

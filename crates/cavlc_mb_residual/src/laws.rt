@@ -11,7 +11,8 @@ ghost use Rattle.h264_types.specs.declared.slice_shape.SliceShape.{SliceShape};
 ghost use Rattle.mb_neighbours.specs.declared.place.At.TheVariants.{Luma4, Chroma4};
 ghost use Rattle.cavlc_mb_residual.specs.declared.counts.Around.{Around};
 ghost use Rattle.cavlc_mb_residual.specs.Counts.{around_of, around_from, counts_at, counts_of, luma_nC, chroma_nC, nC};
-ghost use Rattle.cavlc_mb_residual.specs.MacroblockResidual.{HasSizes, IsResidual, residual_text, with_residual, is_beyond_mb};
+ghost use Rattle.h264_types.specs.Sizes.{HasSizes};
+ghost use Rattle.cavlc_mb_residual.specs.MacroblockResidual.{IsResidual, residual_text, with_residual, is_beyond_mb};
 
 /// No text of a residual begins that of another one behind the same elements, and none is that of two.
 pub fn no_residual_begins_another()

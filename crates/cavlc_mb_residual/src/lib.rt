@@ -16,4 +16,4 @@ mod transform_8x8;
 
 pub use beyond::is_beyond;
 pub use counts::{Around, Counts, Sides};
-pub use residual::{has_sizes, read_residual, write_residual};
+pub use residual::{read_residual, write_residual};

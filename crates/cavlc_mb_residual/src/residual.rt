@@ -12,36 +12,9 @@ use crate::lists::{read_list, write_list};
 use crate::luma::{read_luma, write_luma};
 use crate::nc::nc;
 use exp_golomb::{BitSink, BitSource};
-use h264_types::Mb;
+use h264_types::{Mb, has_sizes};
 use mb_neighbours::At;
 use std::alloc::AllocError as Memory;
-
-fn has_size<T: Copy, const N: usize>(list: &[T; N])
-    ensures { length list.now ≡ N }
-{}
-
-/// Each list of a list of lists is as long as the arrays of its type.
-fn have_sizes<T: Copy, const N: usize, const M: usize>(lists: &[[T; N]; M])
-    ensures count { length lists.now ≡ M }
-    ensures each { All (λ list. length list ≡ N) lists.now }
-{
-    for list in lists {
-        has_size(list);
-    }
-}
-
-/// The lists of a macroblock are as long as its arrays.
-pub fn has_sizes(mb: &Mb)
-    ensures { layer.HasSizes mb.now }
-{
-    have_sizes(&mb.refs);
-    have_sizes(&mb.mvd[0]);
-    have_sizes(&mb.mvd[1]);
-    have_sizes(&mb.luma);
-    have_sizes(&mb.chroma_dc);
-    have_sizes(&mb.chroma_ac[0]);
-    have_sizes(&mb.chroma_ac[1]);
-}
 
 /// Reads Intra16x16DCLevel where it is sent, and else puts levels 0.
 fn read_luma_dc<B: BitSource>(

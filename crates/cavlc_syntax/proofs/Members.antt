@@ -1,20 +1,20 @@
 -- The macroblocks that are read are those of slices.
 use Rattle.std.proofs.Common.{◌≡◌, inl, inr, ℕ, ◌*◌, ◌<◌, ◌≤◌, ◌+◌, List, [], ◌∷◌, length, Bool, true, false, refl, sym, ap, subst, ◌∙◌, arith}
-use Rattle.std.specs.Prelude.{All, IsTrue, not, ◌&&◌, ◌||◌, ◌==◌, if◌then◌else◌}
-use Rattle.std.proofs.lemmas.Bool.Decides.{nat_tests}
+use Rattle.std.specs.Prelude.{All, ◌==◌, if◌then◌else◌}
 use Rattle.std.proofs.lemmas.List.Elements.{All-nil, All-cons, All-head, All-tail, All-weaker}
-use Rattle.h264_types.specs.Kind.{is_skip, is_i_nxn, is_i_16x16}
-use Rattle.h264_types.specs.Valid.{IsMacroblock, takes_t8}
+use Rattle.h264_types.specs.Kind.{is_skip, is_i_16x16}
+use Rattle.h264_types.specs.Valid.{IsMacroblock}
 use Rattle.h264_types.specs.declared.macroblock.Mb.{Mb}
 use Rattle.h264_types.specs.declared.macroblock.MbKind.{MbKind}
 use Rattle.h264_types.specs.declared.macroblock.MbKind.TheVariants.{Skip, Intra, P, B}
 use Rattle.h264_types.specs.declared.slice_shape.SliceShape.{SliceShape}
 use Rattle.h264_types.specs.Macroblock.{pattern_of}
-use Rattle.cavlc_mb_residual.specs.MacroblockResidual.{HasSizes, HasSmallLevels, IsResidual, is_beyond_mb}
+use Rattle.h264_types.specs.Sizes.{HasSizes}
+use Rattle.cavlc_mb_residual.specs.MacroblockResidual.{HasSmallLevels, IsResidual, is_beyond_mb}
 use Rattle.cavlc_mb_residual.proofs.BeyondLaws.{small_residual}
 use Rattle.cavlc_mb_residual.proofs.ResidualValid.{to_residual, residual_not_beyond}
 use Rattle.cavlc_macroblock.specs.Reading.{IsSent}
-use Rattle.cavlc_macroblock.proofs.ValidLaws.{valid_sent, sent_valid, sent_sizes, valid_skipped, skipped_valid, skipped_levels}
+use Rattle.cavlc_macroblock.proofs.ValidLaws.{has_transform, valid_sent, sent_valid, sent_sizes, valid_skipped, skipped_valid, skipped_levels}
 use Rattle.cavlc_syntax.specs.Reading.{IsSkipped, IsRead}
 use Rattle.cavlc_syntax.specs.SliceText.{IsBuiltShape, IsNotBeyond, HasText, prefix_bound}
 
@@ -58,25 +58,9 @@ valid_read shape mb mbaff is sizes within = by (is_skip mb.kind) refl
 
 -- ---- levels
 
--- I_16x16 has no 8x8 transform
-no_flag : (t8_mode coded : Bool) → IsTrue (t8_mode && (false || (coded && false))) → ⊥
-no_flag true true h = cc
-no_flag true false h = cc
-no_flag false coded h = cc
-
-not_16x16 : (t8_mode coded direct8 : Bool) (kind : MbKind) (subs : List ℕ) → IsTrue (t8_mode && (is_i_nxn kind || (coded && takes_t8 direct8 kind subs))) → is_i_16x16 kind ≡ false
-not_16x16 t8_mode coded direct8 Skip subs h = refl
-not_16x16 t8_mode coded direct8 (P n) subs h = refl
-not_16x16 t8_mode coded direct8 (B n) subs h = refl
-not_16x16 t8_mode coded direct8 (Intra n) subs h = by (n == 0) refl
-  where
-    by : (b : Bool) → (n == 0) ≡ b → is_i_16x16 (Intra n) ≡ false
-    by true e = let none : n ≡ 0 = grind (arith, nat_tests) in rw none refl
-    by false e = absurd (no_flag t8_mode coded (subst (λ (b : Bool). IsTrue (t8_mode && (b || (coded && false)))) e h))
-
 valid_levels : (shape : SliceShape) (mb : Mb) → IsMacroblock shape mb → HasSizes mb → IsResidual (is_i_16x16 mb.kind) (pattern_of mb) 20 mb
 valid_levels shape mb is sizes =
-    to_residual mb sizes (λ t8. not_16x16 shape.t8_mode (not (mb.pattern.luma == 0)) shape.direct8 mb.kind mb.subs (is.typed.t8 t8)) is.coded.luma is.coded.chroma
+    to_residual mb sizes (has_transform shape mb is.typed.t8) is.coded.luma is.coded.chroma
 
 -- a valid macroblock is sent with level_prefix up to 20, and the levels of one that is sent are in range
 pub sent_20 : (shape : SliceShape) (mb : Mb) → shape.mbaff ≡ false → is_skip mb.kind ≡ false → IsMacroblock shape mb → HasSizes mb → IsSent shape 20 mb

@@ -7,7 +7,8 @@ use Rattle.h264_types.specs.Kind.{is_skip}
 use Rattle.h264_types.specs.Valid.{IsMacroblock}
 use Rattle.h264_types.specs.declared.macroblock.Mb.{Mb}
 use Rattle.h264_types.specs.declared.slice_shape.SliceShape.{SliceShape}
-use Rattle.cavlc_mb_residual.specs.MacroblockResidual.{HasSizes, is_beyond_mb}
+use Rattle.h264_types.specs.Sizes.{HasSizes}
+use Rattle.cavlc_mb_residual.specs.MacroblockResidual.{is_beyond_mb}
 use Rattle.cavlc_mb_residual.specs.declared.counts.Around.{Around}
 use Rattle.cavlc_mb_residual.specs.declared.counts.Counts.{Counts}
 use Rattle.cavlc_macroblock.specs.Reading.{IsSent}

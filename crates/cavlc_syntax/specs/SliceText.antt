@@ -3,7 +3,8 @@ use Rattle.std.specs.Prelude.{◌≡◌, ℕ, ◌+◌, ◌-◌, ◌*◌, ◌%◌
 use Rattle.exp_golomb.specs.Code.{ue}
 use Rattle.cavlc_mb_residual.specs.Counts.{around_of}
 use Rattle.cavlc_mb_residual.specs.declared.counts.Around.{Around}
-use Rattle.cavlc_mb_residual.specs.MacroblockResidual.{HasSizes, is_beyond_mb}
+use Rattle.h264_types.specs.Sizes.{HasSizes}
+use Rattle.cavlc_mb_residual.specs.MacroblockResidual.{is_beyond_mb}
 use Rattle.cavlc_macroblock.specs.MacroblockLayer.{HasFewRefs}
 use Rattle.cavlc_macroblock.specs.Macroblock.{macroblock_text}
 use Rattle.h264_types.specs.Kind.{is_skip}

@@ -2,9 +2,8 @@ ghost use Rattle.std.specs.Prelude.{◌≡◌, ◌≤◌, ◌⊎◌};
 ghost use Rattle.cavlc_syntax.specs.SliceText.{IsBuiltShape};
 
 use super::*;
-use cavlc_mb_residual::has_sizes;
 use exp_golomb::{BitSink, BitSource, BitVec, SliceBits};
-use h264_types::{Mb, MbKind, SliceKind, SliceShape, valid};
+use h264_types::{Mb, MbKind, SliceKind, SliceShape, has_sizes, valid};
 use std::alloc::Global;
 use std::test::Fail;
 

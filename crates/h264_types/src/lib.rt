@@ -9,6 +9,7 @@ pub mod laws;
 mod layer;
 pub mod macroblock;
 pub mod partition;
+mod sizes;
 pub mod slice_order;
 pub mod slice_shape;
 pub mod validity;
@@ -17,6 +18,7 @@ pub use fault::{Case, Place, Stopped, Why};
 pub use layer::Layer;
 pub use macroblock::{Levels, Mb, MbKind, Pattern};
 pub use partition::Prediction;
+pub use sizes::has_sizes;
 pub use slice_shape::{SliceKind, SliceShape};
 pub use validity::valid;
 

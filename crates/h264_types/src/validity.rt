@@ -36,7 +36,9 @@ fn take_t8_in_b(direct8: bool, subs: &[u8]) -> bool
     subs.iter().all(|sub| *sub < 4 && (direct8 || *sub != 0))
 }
 
-fn allows_t8(direct8: bool, kind: MbKind, subs: &[u8]) -> bool
+/// Whether no part of a P or B macroblock is smaller than 8x8, where direct ones are as direct_8x8_inference_flag says; then
+/// transform_size_8x8_flag is sent for it where its luma pattern isn't 0 (7.3.5).
+pub fn allows_t8(direct8: bool, kind: MbKind, subs: &[u8]) -> bool
     ensures { result ≡ takes_t8 direct8 kind subs.now }
 {
     match kind {
@@ -56,7 +58,8 @@ fn may_send_t8(shape: &SliceShape, mb: &Mb) -> bool
             || mb.pattern.luma != 0 && allows_t8(shape.direct8, mb.kind, &mb.subs))
 }
 
-fn may_be_ref0(mb: &Mb) -> bool
+/// Whether P_8x8ref0 says the same as this type and its reference indices (Table 7-13).
+pub fn is_p_8x8ref0(mb: &Mb) -> bool
     ensures { result ≡ is_ref0 mb.now }
 {
     matches!(mb.kind, MbKind::P(3)) && mb.refs[0].iter().all(|index| *index == 0)
@@ -66,7 +69,7 @@ fn is_typed(shape: &SliceShape, mb: &Mb) -> bool
     ensures { IsTrue result ↔ IsTyped shape.now mb.now }
 {
     is_kind_of(shape.kind, mb.kind)
-        && (!mb.ref0 || may_be_ref0(mb))
+        && (!mb.ref0 || is_p_8x8ref0(mb))
         && (!mb.field || shape.mbaff)
         && (!mb.t8 || may_send_t8(shape, mb))
 }

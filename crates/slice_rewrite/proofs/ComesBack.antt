@@ -4,7 +4,7 @@ use Rattle.std.specs.Prelude.{◌||◌}
 use Rattle.std.proofs.lemmas.Bool.{eqb-true}
 use Rattle.bit_texts.specs.Bits.{bits_of, bytes_of}
 use Rattle.bit_texts.proofs.Bytes.{bits_of-bytes_of}
-use Rattle.cavlc_mb_residual.specs.MacroblockResidual.{HasSizes}
+use Rattle.h264_types.specs.Sizes.{HasSizes}
 use Rattle.cavlc_syntax.specs.SliceText.{IsBuilt, IsNotBeyond, HasText, slice_text}
 use Rattle.cavlc_syntax.proofs.Texts.{slice_fills, slice_stops}
 use Rattle.exp_golomb.specs.EmulationPrevention.{IsEscape, HasEscape, escaped}

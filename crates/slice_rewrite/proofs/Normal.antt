@@ -7,7 +7,8 @@ use Rattle.std.proofs.lemmas.Bool.{eqb-true}
 use Rattle.std.proofs.lemmas.Bool.Decides.{Decides-int_eq}
 use Rattle.std.proofs.lemmas.Nat.Bits.{bit_at-zero}
 use Rattle.std.proofs.lemmas.List.{length-map}
-use Rattle.cavlc_mb_residual.specs.MacroblockResidual.{HasSizes, is_beyond_mb}
+use Rattle.h264_types.specs.Sizes.{HasSizes}
+use Rattle.cavlc_mb_residual.specs.MacroblockResidual.{is_beyond_mb}
 use Rattle.h264_types.specs.declared.layer.Layer.{Layer}
 use Rattle.h264_types.specs.declared.layer.Layer.TheVariants.{Cavlc}
 use Rattle.h264_types.specs.declared.macroblock.Mb.{Mb}

@@ -4,7 +4,7 @@ use Rattle.std.specs.Prelude.{All, Result, Ok, Err, IfOk, IfErr}
 use Rattle.std.proofs.lemmas.List.{map-append, take_more, take-append-drop}
 use Rattle.bit_texts.specs.Bits.{bits_of}
 use Rattle.bit_texts.specs.Texts.{Appended}
-use Rattle.cavlc_mb_residual.specs.MacroblockResidual.{HasSizes}
+use Rattle.h264_types.specs.Sizes.{HasSizes}
 use Rattle.cavlc_syntax.specs.SliceText.{IsBuiltShape, AreOfSlice, HasText, slice_text, NoList}
 use Rattle.cavlc_syntax.specs.Standing.{Refuses}
 use Rattle.cavlc_syntax.specs.Written.{BeginsSlice, WritesFor}

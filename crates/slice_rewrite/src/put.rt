@@ -4,14 +4,14 @@ ghost use Rattle.cavlc_syntax.specs.Written.{WritesFor, MayPut};
 ghost use Rattle.h264_types.specs.declared.layer.Layer.TheVariants.{Cavlc};
 ghost use Rattle.h264_types.specs.declared.macroblock.Mb.{Mb};
 ghost use Rattle.h264_types.specs.declared.slice_shape.SliceShape.{SliceShape};
-ghost use Rattle.h264_types.specs.Valid.{is_ref0};
 ghost use Rattle.pattern_fix.specs.NormalPattern.{IsEmptied};
 ghost use Rattle.slice_rewrite.specs.SliceForms.{PutsWritten};
 ghost use Rattle.slice_rewrite.specs.Written.{written_mb};
 
 use cavlc_syntax::{CavlcWriter, PutFault};
 use exp_golomb::BitSink;
-use h264_types::{Case, Mb, MbKind};
+use h264_types::validity::is_p_8x8ref0;
+use h264_types::{Case, Mb};
 use pattern_fix::normalise;
 
 /// Why a macroblock wasn't put.
@@ -37,11 +37,4 @@ pub fn put_written<K: BitSink>(writer: &mut CavlcWriter<K>, mb: &mut Mb) -> Resu
         Err(PutFault::Beyond) => Err(WriteFault::Stop(Case::Level)),
         Err(PutFault::Memory) => Err(WriteFault::Memory),
     }
-}
-
-/// Whether P_8x8ref0 says the same as this type and its reference indices (Table 7-13).
-fn is_p_8x8ref0(mb: &Mb) -> bool
-    ensures { result ≡ is_ref0 mb.now }
-{
-    matches!(mb.kind, MbKind::P(3)) && mb.refs[0].iter().all(|index| *index == 0)
 }

@@ -1,7 +1,6 @@
 // What no clause says: that memory suffices, and known bytes.
 use super::*;
-use cavlc_mb_residual::has_sizes;
-use h264_types::{Case, Layer, Mb, MbKind, Why, valid};
+use h264_types::{Case, Layer, Mb, MbKind, Why, has_sizes, valid};
 use param_sets::{Sets, read_pps, read_sps};
 use slice_header::shape;
 use std::alloc::Global;

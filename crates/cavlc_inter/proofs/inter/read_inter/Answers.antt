@@ -40,5 +40,5 @@ returns-clause-reads g c =
     last_is_read c.args.kind c.args.ref0 c.args.active old _ c.greatest_ref-greatest0.result c.greatest_ref-greatest1.result c.greatest_ref-greatest0.ensures c.greatest_ref-greatest1.ensures (omega (arith, c.greatest_ref-greatest0.type_inv)) (omega (arith, c.greatest_ref-greatest1.type_inv))
     c.read_subs_if.new.subs c.read_refs.new.refs c.read_refs-2.new.refs c.read_mvds.new.vectors c.read_mvds-2.new.vectors (g.B.BitSource.left c.args.bits.now) (g.B.BitSource.left c.read_subs_if.new.bits) (g.B.BitSource.left c.read_refs.new.bits) (g.B.BitSource.left c.read_refs-2.new.bits) (g.B.BitSource.left c.read_mvds.new.bits)
     c.in_ok-read_subs_if.ensures.reads c.in_ok-read_refs.ensures.reads c.in_ok-read_refs-2.ensures.reads c.in_ok-read_mvds.ensures.reads
-    (made_by_rows old c.read_subs_if.new.subs c.read_refs.new.refs c.read_refs-2.new.refs c.read_mvds.new.vectors c.read_mvds-2.new.vectors c.has_size.ensures c.has_size-2.ensures)
+    (made_by_rows old c.read_subs_if.new.subs c.read_refs.new.refs c.read_refs-2.new.refs c.read_mvds.new.vectors c.read_mvds-2.new.vectors c.has_sizes.ensures.refs.0 c.has_sizes.ensures.mvd.0)
     c.read_mvds-2.result (g.B.BitSource.left c.read_mvds-2.new.bits) c.read_mvds-2.ensures.reads

@@ -1,7 +1,7 @@
 -- What was found to be valid may be put.
 use Rattle.std.proofs.Common.{[], refl}
 use Rattle.std.proofs.lemmas.List.Elements.{All-nil, All-cons}
-use Rattle.cavlc_mb_residual.specs.MacroblockResidual.{HasSizes}
+use Rattle.h264_types.specs.Sizes.{HasSizes}
 use Rattle.cavlc_syntax.proofs.tests.put_level.Goals as goal
 
 pub put-requires : goal.put-requires

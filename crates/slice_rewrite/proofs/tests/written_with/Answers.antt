@@ -1,7 +1,7 @@
 -- What was found to be valid may be written.
 use Rattle.std.proofs.Common.{◌≡◌, ◌∙◌, ◌++◌, ◌∷◌, [], List, refl, sym, ap, subst}
 use Rattle.std.proofs.lemmas.List.Elements.{All-nil, All-cons}
-use Rattle.cavlc_mb_residual.specs.MacroblockResidual.{HasSizes}
+use Rattle.h264_types.specs.Sizes.{HasSizes}
 use Rattle.cavlc_syntax.specs.SliceText.{AreOfSlice}
 use Rattle.h264_types.specs.declared.macroblock.Mb.{Mb}
 use Rattle.h264_types.specs.declared.slice_shape.SliceShape.{SliceShape}

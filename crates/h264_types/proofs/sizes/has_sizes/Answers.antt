@@ -1,7 +1,7 @@
 use Rattle.std.proofs.Common.{◌≡◌, length, [], arith}
 use Rattle.std.proofs.lemmas.List.Elements.{recursion_from_All}
-use Rattle.cavlc_mb_residual.proofs.BeyondLaws.{two_all}
-use Rattle.cavlc_mb_residual.proofs.residual.has_sizes.Goals as goal
+use Rattle.h264_types.proofs.Lists.{two_all}
+use Rattle.h264_types.proofs.sizes.has_sizes.Goals as goal
 
 pub returns : goal.returns
 returns c = record {
