@@ -1,0 +1,13 @@
+pub mod Puts
+pub mod WholeIncrements
+pub mod PredictionSteps
+pub mod PatternSteps
+pub mod CodingSteps
+pub mod Absent
+pub mod Kept
+pub mod KeptElements
+pub mod OneStrings
+pub mod OneMacroblock
+pub mod Values
+pub mod ValidElements
+pub mod ValidMacroblock

@@ -1,0 +1,13 @@
+use Rattle.std.proofs.Common.{◌≡◌, ◌-◌, ◌<◌, ◌^◌, false}
+use Rattle.binarisation.proofs.Strings.{Continues}
+use Rattle.cabac_mb_residual.specs.MacroblockResidual.{each}
+use Rattle.cabac_macroblock.specs.CodedBlockPattern.{luma_bit, luma_bits}
+use Rattle.cabac_macroblock.proofs.pattern.read_luma.Given as goal
+
+abbrev pub invariant-loop-quarter : goal.invariant-loop-quarter
+invariant-loop-quarter g l = record {
+  going : g.S.BinSource.over l.s ≡ false;
+  bits : l.mb.pattern.luma < 2 ^ l.quarter;
+  others : l.mb ≡ record l.fn.mb { pattern = record l.fn.mb.pattern { luma = l.mb.pattern.luma } };
+  reads : Continues g.S.BinSource.step (luma_bits l.shape l.done l.at l.fn.mb) l.fn.s (each (4 - l.quarter) (luma_bit l.shape l.done l.at) l.quarter l.mb) l.s;
+}

@@ -1,0 +1,4 @@
+pub mod IntraPrediction
+pub mod CodedBlockPattern
+pub mod Stages
+pub mod MacroblockLayer

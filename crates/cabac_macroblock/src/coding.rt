@@ -1,0 +1,106 @@
+//! mb_qp_delta and the residual (ITU-T H.264, 7.3.5).
+ghost use Rattle.std.specs.Prelude.{◌≡◌, ◌≤◌, length, option_map, false, true, OnOk, OnSome, OnErr};
+ghost use Rattle.binarisation.specs.BinString.{Reads, Writes};
+ghost use Rattle.h264_types.specs.Slice.{IsInPicture};
+ghost use Rattle.h264_types.specs.Sizes.{HasSizes};
+ghost use Rattle.h264_types.specs.Valid.{IsQpDelta};
+ghost use Rattle.cabac_mb_residual.specs.Levels.{IsResidual, without_levels};
+ghost use Rattle.cabac_macroblock.specs.MacroblockLayer as layer;
+ghost use Rattle.cabac_macroblock.specs.Stages.{before_qp_delta};
+
+use binarisation::{read_qp_delta, write_qp_delta};
+use cabac_contexts::ctx_inc_qp_delta;
+use cabac_engine::{BinSink, BinSource};
+use cabac_mb_residual::{read_residual, write_residual};
+use h264_types::{Mb, SliceShape};
+use std::alloc::AllocError as Memory;
+
+/// Whether mb_qp_delta and the residual stand in a macroblock of this type with this pattern.
+fn sends_residual(mb: &Mb) -> bool
+    ensures { result ≡ layer.sends_residual mb.now }
+{
+    mb.kind.is_i_16x16() || !(mb.pattern.luma == 0 && mb.pattern.chroma == 0)
+}
+
+/// Reads mb_qp_delta.
+fn read_delta<S: BinSource>(
+    s: &mut S,
+    shape: &SliceShape,
+    done: &[Mb],
+    at: u32,
+    mb: &mut Mb,
+) -> Option<()>
+    requires going { S.over s.old ≡ false }
+    requires done { at ≤ length done.now }
+    ensures reads { Reads S.step (layer.qp_delta done.now at mb.old) (option_map (λ _. mb.new) result) s.old s.new }
+    ensures going { OnSome result (S.over s.new ≡ false) }
+{
+    let inc = ctx_inc_qp_delta(shape, done, at, mb.field, mb);
+    mb.qp_delta = read_qp_delta(s, inc)?;
+    Some(())
+}
+
+/// Reads mb_qp_delta and the residual of a macroblock whose other elements stand.
+pub fn read_coding<S: BinSource>(
+    s: &mut S,
+    shape: &SliceShape,
+    done: &[Mb],
+    at: u32,
+    mb: &mut Mb,
+) -> Option<()>
+    requires going { S.over s.old ≡ false }
+    requires picture { IsInPicture shape.now at }
+    requires done { at ≤ length done.now }
+    ensures reads { Reads S.step (layer.coding shape.now done.now at mb.old) (option_map (λ _. mb.new) result) s.old s.new }
+    ensures going { OnSome result (S.over s.new ≡ false) }
+{
+    if sends_residual(mb) {
+        read_delta(s, shape, done, at, mb)?;
+        read_residual(s, shape, done, at, mb)?;
+    }
+    Some(())
+}
+
+/// Writes mb_qp_delta.
+fn write_delta<S: BinSink>(
+    s: &mut S,
+    shape: &SliceShape,
+    done: &[Mb],
+    at: u32,
+    mb: &Mb,
+) -> Result<(), Memory>
+    requires going { S.over s.old ≡ false }
+    requires done { at ≤ length done.now }
+    requires delta { IsQpDelta mb.now }
+    ensures writes { OnOk result (Writes S.step (layer.qp_delta done.now at (before_qp_delta mb.now)) (without_levels mb.now) s.old s.new) }
+    ensures going { OnOk result (S.over s.new ≡ false) }
+    ensures err { OnErr result (S.over s.new ≡ true) }
+{
+    let inc = ctx_inc_qp_delta(shape, done, at, mb.field, mb);
+    write_qp_delta(s, inc, mb.qp_delta)
+}
+
+/// Writes mb_qp_delta and the residual.
+pub fn write_coding<S: BinSink>(
+    s: &mut S,
+    shape: &SliceShape,
+    done: &[Mb],
+    at: u32,
+    mb: &Mb,
+) -> Result<(), Memory>
+    requires going { S.over s.old ≡ false }
+    requires picture { IsInPicture shape.now at }
+    requires done { at ≤ length done.now }
+    requires sizes { HasSizes mb.now }
+    requires delta { IsQpDelta mb.now }
+    requires residual { IsResidual mb.now }
+    ensures writes { OnOk result (Writes S.step (layer.coding shape.now done.now at (before_qp_delta mb.now)) mb.now s.old s.new) }
+    ensures going { OnOk result (S.over s.new ≡ false) }
+    ensures err { OnErr result (S.over s.new ≡ true) }
+{
+    if !sends_residual(mb) {
+        return Ok(());
+    }
+    write_delta(s, shape, done, at, mb)?;
+    write_residual(s, shape, done, at, mb)
+}

@@ -1,0 +1,10 @@
+use Rattle.std.proofs.Common.{◌≡◌, ◌-◌, false}
+use Rattle.binarisation.proofs.Strings.{Continues}
+use Rattle.cabac_mb_residual.specs.MacroblockResidual.{each, chroma_block}
+use Rattle.cabac_mb_residual.proofs.chroma.read_ac_of.Given as goal
+
+abbrev pub invariant-loop-n : goal.invariant-loop-n
+invariant-loop-n g l = record {
+  going : g.S.BinSource.over l.s ≡ false;
+  reads : Continues g.S.BinSource.step (each 4 (chroma_block l.shape l.done l.at l.comp) 0 l.fn.mb) l.fn.s (each (4 - l.n) (chroma_block l.shape l.done l.at l.comp) l.n l.mb) l.s;
+}

@@ -1,0 +1,10 @@
+use Rattle.std.proofs.Common.{◌≡◌, ◌-◌, false}
+use Rattle.binarisation.proofs.Strings.{Continues}
+use Rattle.cabac_mb_residual.specs.MacroblockResidual.{each, chroma_ac}
+use Rattle.cabac_mb_residual.proofs.chroma.read_chroma_ac.Given as goal
+
+abbrev pub invariant-loop-comp : goal.invariant-loop-comp
+invariant-loop-comp g l = record {
+  going : g.S.BinSource.over l.s ≡ false;
+  reads : Continues g.S.BinSource.step (each 2 (chroma_ac l.shape l.done l.at) 0 l.fn.mb) l.fn.s (each (2 - l.comp) (chroma_ac l.shape l.done l.at) l.comp l.mb) l.s;
+}

@@ -1,0 +1,11 @@
+use Rattle.std.proofs.Common.{◌≡◌, ◌+◌, ◌-◌, ◌*◌, false}
+use Rattle.binarisation.proofs.Strings.{Completes}
+use Rattle.cabac_mb_residual.specs.MacroblockResidual.{each, chroma_block}
+use Rattle.cabac_mb_residual.specs.Levels.{so_far}
+use Rattle.cabac_mb_residual.proofs.chroma.write_ac_of.Given as goal
+
+abbrev pub invariant-loop-n : goal.invariant-loop-n
+invariant-loop-n g l = record {
+  going : g.S.BinSink.over l.s ≡ false;
+  writes : Completes g.S.BinSink.step (each 4 (chroma_block l.shape l.done l.at l.comp) 0 (so_far 16 256 8 (60 * l.comp) l.mb)) l.fn.s (each (4 - l.n) (chroma_block l.shape l.done l.at l.comp) l.n (so_far 16 256 8 (60 * l.comp + 15 * l.n) l.mb)) l.s;
+}

@@ -1,0 +1,11 @@
+use Rattle.std.proofs.Common.{◌≡◌, ◌-◌, ◌*◌, false}
+use Rattle.binarisation.proofs.Strings.{Completes}
+use Rattle.cabac_mb_residual.specs.MacroblockResidual.{each, chroma_ac}
+use Rattle.cabac_mb_residual.specs.Levels.{so_far}
+use Rattle.cabac_mb_residual.proofs.chroma.write_chroma_ac.Given as goal
+
+abbrev pub invariant-loop-comp : goal.invariant-loop-comp
+invariant-loop-comp g l = record {
+  going : g.S.BinSink.over l.s ≡ false;
+  writes : Completes g.S.BinSink.step (each 2 (chroma_ac l.shape l.done l.at) 0 (so_far 16 256 8 0 l.mb)) l.fn.s (each (2 - l.comp) (chroma_ac l.shape l.done l.at) l.comp (so_far 16 256 8 (60 * l.comp) l.mb)) l.s;
+}

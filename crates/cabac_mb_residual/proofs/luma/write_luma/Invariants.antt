@@ -1,0 +1,11 @@
+use Rattle.std.proofs.Common.{◌≡◌, ◌-◌, ◌*◌, false}
+use Rattle.binarisation.proofs.Strings.{Completes}
+use Rattle.cabac_mb_residual.specs.MacroblockResidual.{each, quarter}
+use Rattle.cabac_mb_residual.specs.Levels.{so_far}
+use Rattle.cabac_mb_residual.proofs.luma.write_luma.Given as goal
+
+abbrev pub invariant-loop-quarter : goal.invariant-loop-quarter
+invariant-loop-quarter g l = record {
+  going : g.S.BinSink.over l.s ≡ false;
+  writes : Completes g.S.BinSink.step (each 4 (quarter l.shape l.done l.at) 0 (so_far 16 0 0 0 l.mb)) l.fn.s (each (4 - l.quarter) (quarter l.shape l.done l.at) l.quarter (so_far 16 (64 * l.quarter) 0 0 l.mb)) l.s;
+}

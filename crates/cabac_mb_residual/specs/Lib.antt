@@ -1,0 +1,2 @@
+pub mod MacroblockResidual
+pub mod Levels
