@@ -2,19 +2,11 @@
 //! another entropy layer, and reports on standard error how that ended. Parameter sets and slices are rewritten, and the
 //! units beside them are carried. Slices of I_PCM macroblocks are read so far, and written in CAVLC alone; another slice ends
 //! the run.
-//! The top call is `run::run`, and its contract is what the program promises.
+//! The top call is `recode_run::run::run`, and its contract is what the program promises.
 #![tactic(auto)]
 
-pub mod account;
-pub mod laws;
-pub mod report;
-pub mod run;
-pub mod status;
-#[cfg(test)]
-mod tests;
-pub mod words;
-
-use status::Status;
+use recode_run::run::run;
+use recode_run::status::Status;
 use std::env;
 use std::io::{self, ErrorKind};
 use std::process::ExitCode;
@@ -49,7 +41,7 @@ fn main(rt: HostRuntime) -> ExitCode {
     let mut out = StdSink::new(rt.stdout());
     let mut report = StdSink::new(rt.stderr());
     let mut taps = Vec::new(rt.alloc());
-    let status = run::run(
+    let status = run(
         rt.alloc(),
         words.as_slice(),
         &mut src,

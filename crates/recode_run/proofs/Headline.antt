@@ -1,0 +1,50 @@
+-- What recoding promises of a whole stream follows from what each answer says.
+use Rattle.std.proofs.Common.{◌≡◌, ◌⊎◌, inl, inr, ℕ, ◌≤◌, List, [], length, Option, Some, None, refl, sym, subst}
+use Rattle.std.specs.Io.KnownBytes.{Appends}
+use Rattle.h264_types.specs.declared.layer.Layer.{Layer}
+use Rattle.h264_types.specs.Units.{Seen, seen_whole}
+use Rattle.slice_rewrite.specs.Items.{Item}
+use Rattle.slice_rewrite.specs.Verdict.{Recodes}
+use Rattle.slice_rewrite.specs.Written.{output}
+use Rattle.slice_rewrite.specs.View.{Reads, CanBeWritten, SaysTheSame}
+use Rattle.slice_rewrite.proofs.Headline.{reads-recoded, recodes-read, recodes-writable, says-the-same}
+use Rattle.recode_run.specs.declared.status.Status.{Status}
+use Rattle.recode_run.specs.declared.status.Status.TheVariants.{Ok as Done}
+use Rattle.recode_run.specs.Headline.{IsInScope, IsHeadline}
+use Rattle.recode_run.specs.Run.{plan_to, IsNoReport, Leaves, IsTold, IsDue, IsExact}
+use Rattle.recode_run.proofs.Told.{judged-all}
+
+-- the answer was not replaced
+not_replaced : (status : Status) → (Done ≡ status) ⊎ IsNoReport Done → status ≡ Done
+not_replaced status (inl same) = sym same
+not_replaced status (inr (inl e)) = absurd cc
+not_replaced status (inr (inr e)) = absurd cc
+
+passed : (to : Layer) (bound : ℕ) (b : List ℕ) (left' held held' : Option (List ℕ)) → Leaves (plan_to to) bound b left' held held' Done
+    → (left' ≡ Some []) × (length b ≤ bound) × ((items : List Item) × (bytes : List ℕ) × Reads to b items × CanBeWritten to items × Appends held held' bytes × SaysTheSame to items bytes)
+passed to bound b left' held held' h =
+    let whole = judged-all bound b h.0 in
+    let P : Seen → Type 0 = λ s. Recodes (plan_to to) s h.2.0 None in
+    let A : Seen → Type 0 = λ s. Appends held held' (output (plan_to to) s.units h.2.0) in
+    let recodes = subst P whole h.2.1 in
+    (h.1, h.0, (h.2.0, output (plan_to to) (seen_whole b).units h.2.0, reads-recoded (plan_to to) b h.2.0 recodes, recodes-writable (plan_to to) b h.2.0 recodes, subst A whole h.2.2, says-the-same (plan_to to) b h.2.0 refl recodes))
+
+told_done : (to : Layer) (bound : ℕ) (b : List ℕ) (left' held held' : Option (List ℕ)) (answer : Status) → IsTold (Some to) bound (Some b) left' held held' answer → answer ≡ Done → Leaves (plan_to to) bound b left' held held' Done
+told_done to bound b left' held held' answer told e =
+    let P : Status → Type 0 = λ a. (a ≡ told.0) ⊎ IsNoReport a in
+    let L : Status → Type 0 = Leaves (plan_to to) bound b left' held held' in
+    subst L (not_replaced told.0 (subst P e told.2)) told.1
+
+due_done : (to : Layer) (bound : ℕ) (b : List ℕ) → IsInScope to bound b → IsDue (Some to) bound b Done
+due_done to bound b scope =
+    let P : Seen → Type 0 = λ s. Recodes (plan_to to) s scope.1.0 None in
+    (scope.0, (scope.1.0, subst P (sym (judged-all bound b scope.0)) (recodes-read (plan_to to) b scope.1.0 refl scope.1.1 scope.1.2)))
+
+pub is_headline : (layer : Option Layer) (bound : ℕ) (left left' held held' : Option (List ℕ)) (answer : Status) → IsTold layer bound left left' held held' answer → IsExact layer bound left answer → IsHeadline layer bound left left' held held' answer
+is_headline (Some to) bound (Some b) left' held held' answer told exact = record {
+  ok = λ e. passed to bound b left' held held' (told_done to bound b left' held held' answer told e);
+  in_scope = λ scope. exact Done (due_done to bound b scope);
+}
+is_headline None bound (Some b) left' held held' answer told exact = tt
+is_headline (Some to) bound None left' held held' answer told exact = tt
+is_headline None bound None left' held held' answer told exact = tt
