@@ -21,6 +21,3 @@ pub use sink::BitSink;
 pub use slice_bits::SliceBits;
 pub use source::BitSource;
 pub use write::{write_se, write_te, write_u, write_ue};
-
-#[cfg(test)]
-mod tests;

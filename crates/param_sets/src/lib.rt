@@ -27,6 +27,3 @@ pub use sets::Sets;
 pub use sps::Sps;
 pub use write_pps_text::write_pps;
 pub use write_sps_text::write_sps;
-
-#[cfg(test)]
-mod tests;

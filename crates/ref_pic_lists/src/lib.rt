@@ -21,6 +21,3 @@ pub use read_weights_text::read_weights;
 pub use weights::{ChromaWeights, EntryWeights, Weight, WeightTable};
 pub use write_modification_text::write_modification;
 pub use write_weights_text::write_weights;
-
-#[cfg(test)]
-mod tests;

@@ -14,6 +14,3 @@ pub use header_parts::{Header, HeaderFault, MemoryManagement};
 pub use read_header_text::read_header;
 pub use slice_shape::{layer_of, shape};
 pub use write_header_text::write_header;
-
-#[cfg(test)]
-mod tests;

@@ -1,21 +1,11 @@
-use super::*;
-use exp_golomb::{BitSink, BitVec, SliceBits};
-use std::alloc::Global;
+//! Modifications of reference picture lists and tables of prediction weights, put together bit by bit.
+use crate::payload::payload_of;
+use exp_golomb::{BitVec, SliceBits};
+use ref_pic_lists::{
+    ChromaWeights, EntryWeights, Weight, read_modification, read_weights, write_modification,
+    write_weights,
+};
 use std::test::Fail;
-
-/// Bits with a stop bit and zero bits behind them.
-fn payload_of(alloc: Global, mut bits: BitVec) -> Result<Vec<u8>, Fail> {
-    bits.put(true)?;
-    for _zeros in 0..7u8 {
-        if !bits.aligned() {
-            bits.put(false)?;
-        }
-    }
-    if bits.aligned() {
-        return Ok(bits.into_bytes());
-    }
-    Ok(Vec::new(alloc))
-}
 
 #[test]
 fn modifications_come_back(rt: HostRuntime) -> Result<(), Fail> {
@@ -33,33 +23,6 @@ fn modifications_come_back(rt: HostRuntime) -> Result<(), Fail> {
         write_modification(&mut out, &modification)?;
         let out = payload_of(rt.alloc(), out)?;
         assert_eq!(rt; out.as_slice(), payload);
-    }
-    Ok(())
-}
-
-#[test]
-fn operations(rt: HostRuntime) -> Result<(), Fail> {
-    let mut bits = SliceBits::new(&[0xE8, 0x8C, 0x41, 0x20]);
-    let modification = read_modification(rt.alloc(), &mut bits)?;
-    let operations = [
-        PicNumModification::Subtract {
-            abs_diff_pic_num_minus1: 0,
-        },
-        PicNumModification::Add {
-            abs_diff_pic_num_minus1: 3,
-        },
-        PicNumModification::LongTerm {
-            long_term_pic_num: 7,
-        },
-    ];
-    assert!(rt; modification.flag);
-    assert_eq!(rt; modification.operations.as_slice(), operations.as_slice());
-    // idc 4; the end of the bits in an operand; no bits
-    let rows: [&[u8]; 3] = [&[0x96], &[0xFF], &[]];
-    for payload in rows {
-        let mut bits = SliceBits::new(payload);
-        let answer = read_modification(rt.alloc(), &mut bits);
-        assert_eq!(rt; answer.err(), Some(ListFault::NoReading));
     }
     Ok(())
 }
@@ -117,24 +80,5 @@ fn entries(rt: HostRuntime) -> Result<(), Fail> {
     };
     assert_eq!(rt; table.list_0.as_slice().get(1), Some(&second));
     assert_eq!(rt; table.list_1.as_slice().len(), 1);
-    Ok(())
-}
-
-#[test]
-fn no_weights(rt: HostRuntime) -> Result<(), Fail> {
-    // denominators of 8; a weight of 128; an offset of -129; the end of the bits in the fourth reference; no bits
-    let rows: [(&[u8], u8); 6] = [
-        (&[0x13], 1),
-        (&[0x89, 0x80], 1),
-        (&[0xE0, 0x10, 0x0A], 1),
-        (&[0xF0, 0x08, 0x1A], 1),
-        (&[0xC0], 4),
-        (&[], 1),
-    ];
-    for (payload, l0) in rows {
-        let mut bits = SliceBits::new(payload);
-        let answer = read_weights(rt.alloc(), &mut bits, l0, None);
-        assert_eq!(rt; answer.err(), Some(ListFault::NoReading));
-    }
     Ok(())
 }

@@ -1,5 +1,6 @@
-use super::*;
+//! Parameter sets that encoders wrote, and some that were put together bit by bit.
 use h264_types::Layer;
+use param_sets::{SetFault, read_pps, read_sps, write_pps, write_sps};
 use std::test::Fail;
 
 /// The payload of a Main set for one macroblock.
@@ -79,7 +80,7 @@ fn picture_sets_in_a_layer(rt: HostRuntime) -> Result<(), Fail> {
 }
 
 #[test]
-fn refusals(rt: HostRuntime) {
+fn sets_are_refused(rt: HostRuntime) {
     // no stop bit; profile 66; width 1056, with a stop bit and without
     let rows: [(&[u8], SetFault); 4] = [
         (&[0x4D, 0x40, 0x0A, 0xDA, 0x78], SetFault::NoReading),
@@ -100,16 +101,4 @@ fn refusals(rt: HostRuntime) {
         read_pps(rt.alloc(), &[0xCE, 0x38]).err(),
         Some(SetFault::NoReading)
     );
-}
-
-#[test]
-fn last_sets_stand(rt: HostRuntime) -> Result<(), Fail> {
-    let mut sets = Sets::new(rt.alloc());
-    sets.put_sps(read_sps(rt.alloc(), &MAIN)?)?;
-    sets.put_sps(read_sps(rt.alloc(), &[0x64, 0x00, 0x0A, 0xAC, 0xB4, 0xF2])?)?;
-    sets.put_pps(read_pps(rt.alloc(), &[0xCE, 0x38, 0x80])?)?;
-    assert_eq!(rt; sets.sps(0).map(|sps| sps.profile_idc), Some(100));
-    assert!(rt; sets.sps(1).is_none());
-    assert_eq!(rt; sets.pps(0).map(|pps| pps.tail), Some(false));
-    Ok(())
 }

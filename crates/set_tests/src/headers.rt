@@ -1,0 +1,234 @@
+//! Headers of slices, read and written again.
+use crate::payload::payload_of;
+use crate::under::{
+    ADAPTIVE, CABAC, CYCLIC, FIELDS, FULL, IMPLICIT_B, MAIN, MANY_L0, MANY_L1, PLAIN, UNORDERED,
+    WEIGHTED, WEIGHTED_P, sets,
+};
+use exp_golomb::{BitVec, SliceBits};
+use h264_types::{Layer, SliceKind};
+use param_sets::Sets;
+use ref_pic_lists::{EntryWeights, PicNumModification, Weight};
+use slice_header::{layer_of, read_header, shape, write_header};
+use std::alloc::Global;
+use std::test::Fail;
+
+/// A header that was read and written again, with a cabac_init_idc of 0 to 2.
+fn rewritten(
+    alloc: Global,
+    sets: &Sets,
+    nal: u8,
+    payload: &[u8],
+    layer: Layer,
+    number: u8,
+    idc: u8,
+) -> Result<Vec<u8>, Fail> {
+    if idc > 2 {
+        return Ok(Vec::new(alloc));
+    }
+    let mut bits = SliceBits::new(payload);
+    let header = read_header(alloc, sets, nal, &mut bits)?;
+    let mut out = BitVec::new(alloc);
+    write_header(&mut out, sets, &header, layer, number, idc)?;
+    payload_of(alloc, out)
+}
+
+/// P and B slices, made bit by bit. Behind each there is a 1 and zero bits.
+const WEIGHTED_TEXT: [u8; 9] = [0xE2, 0x18, 0xB0, 0x08, 0x08, 0x0F, 0xE2, 0xA4, 0x3B];
+
+const MODIFIED_TEXT: [u8; 5] = [0xA8, 0xAB, 0xD8, 0x82, 0x1C];
+
+#[test]
+fn headers_come_back(rt: HostRuntime) -> Result<(), Fail> {
+    // I slices: an IDR picture; the filter with its offsets, and off; each marking operation; deltas of type 1. In frames:
+    // P with 3 references; B with modifications of list 0, and of list 1; P and B with weights, and under sets that ask for
+    // none; 16 references. In fields: 17 and 32 references; a frame with 16. No default where 3 are sent, or where no list 1
+    // stands.
+    let rows: [(&[u8], &[u8], u8, &[u8]); 25] = [
+        (&UNORDERED, &PLAIN, 0x65, &[0x88, 0x84, 0xC0]),
+        (&MAIN, &PLAIN, 0x65, &[0x88, 0x81, 0x8E, 0x2C]),
+        (&MAIN, &FULL, 0x65, &[0xB8, 0x4C, 0x4A, 0x21, 0x8D, 0x19]),
+        (&MAIN, &FULL, 0x65, &[0xB8, 0x4C, 0x4A, 0x0E, 0x14]),
+        (
+            &MAIN,
+            &PLAIN,
+            0x41,
+            &[0x88, 0xC9, 0xD0, 0x86, 0x89, 0x65, 0x21, 0x8E, 0x2B, 0x80],
+        ),
+        (&CYCLIC, &PLAIN, 0x01, &[0x88, 0xC9, 0xB0]),
+        (&CYCLIC, &FULL, 0x01, &[0x88, 0xC9, 0x9F, 0xC0]),
+        (&MAIN, &PLAIN, 0x01, &[0x88, 0xC8, 0x03, 0x28]),
+        (&UNORDERED, &PLAIN, 1, &[0x9A, 0x26]),
+        (&UNORDERED, &PLAIN, 1, &[0x9E, 0x31, 0x80]),
+        (&UNORDERED, &PLAIN, 1, &[0x9A, 0x36, 0xC0]),
+        (&UNORDERED, &PLAIN, 1, &MODIFIED_TEXT),
+        (&UNORDERED, &PLAIN, 1, &[0x9E, 0x32, 0x88, 0x42, 0x40]),
+        (&UNORDERED, &WEIGHTED, 0x41, &WEIGHTED_TEXT),
+        (
+            &UNORDERED,
+            &WEIGHTED,
+            1,
+            &[0xA8, 0xF4, 0x44, 0x13, 0x08, 0x3D, 0x60],
+        ),
+        (&UNORDERED, &IMPLICIT_B, 1, &[0xA8, 0xC6]),
+        (&UNORDERED, &WEIGHTED_P, 1, &[0xA8, 0x86]),
+        (&UNORDERED, &PLAIN, 1, &[0x9A, 0x30, 0x83]),
+        (&FIELDS, &PLAIN, 1, &[0xE3, 0x42, 0x2C]),
+        (&FIELDS, &PLAIN, 1, &[0xA8, 0xF8, 0x20, 0x04, 0x06]),
+        (&FIELDS, &MANY_L0, 1, &[0x9A, 0x31, 0x80]),
+        (&FIELDS, &PLAIN, 1, &[0xE2, 0x84, 0x18]),
+        (&ADAPTIVE, &PLAIN, 1, &[0xE2, 0x84, 0x18]),
+        (&UNORDERED, &MANY_L0, 1, &[0x9A, 0x36, 0xC0]),
+        (&UNORDERED, &MANY_L1, 1, &[0x9A, 0x26]),
+    ];
+    for (sps, pps, nal, payload) in rows {
+        let sets = sets(rt.alloc(), sps, pps)?;
+        let out = rewritten(rt.alloc(), &sets, nal, payload, Layer::Cavlc, 0, 0)?;
+        assert_eq!(rt; out.as_slice(), payload);
+    }
+    Ok(())
+}
+
+#[test]
+fn headers_in_both_layers(rt: HostRuntime) -> Result<(), Fail> {
+    // with what follows them in a slice: P, and B; with cabac_init_idc 2 and 1; I, which has none; another picture set
+    let rows: [(&[u8], u8, &[u8], u8, u8, &[u8], &[u8]); 6] = [
+        (
+            &PLAIN,
+            1,
+            &[0x9A, 0x25, 0x40],
+            0,
+            0,
+            &[0x9A, 0x26],
+            &[0x9A, 0x27],
+        ),
+        (
+            &PLAIN,
+            1,
+            &[0x9E, 0x31, 0x50],
+            0,
+            0,
+            &[0x9E, 0x31, 0x80],
+            &[0x9E, 0x31, 0xC0],
+        ),
+        (
+            &CABAC,
+            1,
+            &[0x9A, 0x23, 0xC0],
+            0,
+            2,
+            &[0x9A, 0x26],
+            &[0x9A, 0x23, 0xC0],
+        ),
+        (
+            &CABAC,
+            1,
+            &[0x9E, 0x30, 0x8B],
+            0,
+            1,
+            &[0x9E, 0x30, 0x58],
+            &[0x9E, 0x30, 0x8B],
+        ),
+        (&CABAC, 1, &[0x88, 0x8E], 0, 2, &[0x88, 0x8E], &[0x88, 0x8E]),
+        // 1, 0001000, and now 00000000100000000 for the 1 behind them
+        (
+            &PLAIN,
+            0x65,
+            &[0x88, 0x84, 0xC0],
+            255,
+            0,
+            &[0x88, 0x00, 0x80, 0x04, 0xC0],
+            &[0x88, 0x00, 0x80, 0x04, 0xC0],
+        ),
+    ];
+    for (pps, nal, payload, number, idc, cavlc, cabac) in rows {
+        let sets = sets(rt.alloc(), &UNORDERED, pps)?;
+        let out = rewritten(rt.alloc(), &sets, nal, payload, Layer::Cavlc, number, idc)?;
+        assert_eq!(rt; out.as_slice(), cavlc);
+        let out = rewritten(rt.alloc(), &sets, nal, payload, Layer::Cabac, number, idc)?;
+        assert_eq!(rt; out.as_slice(), cabac);
+    }
+    Ok(())
+}
+
+#[test]
+fn references_of_a_slice(rt: HostRuntime) -> Result<(), Fail> {
+    let with_weights = sets(rt.alloc(), &UNORDERED, &WEIGHTED)?;
+    let mut bits = SliceBits::new(&WEIGHTED_TEXT);
+    let header = read_header(rt.alloc(), &with_weights, 0x41, &mut bits)?;
+    assert!(rt; !header.num_ref_idx_active_override_flag);
+    let luma = Weight {
+        weight: -128,
+        offset: 127,
+    };
+    let entry = EntryWeights {
+        luma: Some(luma),
+        chroma: None,
+    };
+    let first = match &header.pred_weight_table {
+        None => None,
+        Some(table) => table.list_0.as_slice().first(),
+    };
+    assert_eq!(rt; first, Some(&entry));
+    let of_p = shape(&with_weights, &header);
+    assert_eq!(rt;
+        (of_p.kind, of_p.refs, of_p.column),
+        (SliceKind::P, [2, 0], 1)
+    );
+    let plain = sets(rt.alloc(), &UNORDERED, &PLAIN)?;
+    let mut bits = SliceBits::new(&MODIFIED_TEXT);
+    let header = read_header(rt.alloc(), &plain, 1, &mut bits)?;
+    let operations = [
+        PicNumModification::Subtract {
+            abs_diff_pic_num_minus1: 0,
+        },
+        PicNumModification::LongTerm {
+            long_term_pic_num: 7,
+        },
+    ];
+    assert_eq!(rt;
+        header.modification_l0.operations.as_slice(),
+        operations.as_slice()
+    );
+    assert!(rt; !header.modification_l1.flag && !header.direct_spatial_mv_pred_flag);
+    let of_b = shape(&plain, &header);
+    assert_eq!(rt; (of_b.kind, of_b.refs), (SliceKind::B, [2, 1]));
+    assert_eq!(rt; layer_of(&plain, &header), Layer::Cavlc);
+    Ok(())
+}
+
+#[test]
+fn elements_and_shape(rt: HostRuntime) -> Result<(), Fail> {
+    let sets = sets(rt.alloc(), &MAIN, &FULL)?;
+    let payload = [0xB8, 0x4C, 0x4A, 0x21, 0x8D, 0x19];
+    let mut bits = SliceBits::new(&payload);
+    let header = read_header(rt.alloc(), &sets, 0x65, &mut bits)?;
+    assert_eq!(rt;
+        (header.nal, header.slice_type, header.pic_order_cnt_lsb),
+        (0x65, 2, 3)
+    );
+    assert_eq!(rt;
+        (header.delta_pic_order_cnt_bottom, header.slice_qp_delta),
+        (-4, 4)
+    );
+    assert_eq!(rt;
+        (
+            header.no_output_of_prior_pics_flag,
+            header.long_term_reference_flag
+        ),
+        (false, true)
+    );
+    assert_eq!(rt;
+        (
+            header.slice_alpha_c0_offset_div2,
+            header.slice_beta_offset_div2
+        ),
+        (-6, 6)
+    );
+    let shape = shape(&sets, &header);
+    assert_eq!(rt;
+        (shape.kind, shape.width, shape.height),
+        (SliceKind::I, 1, 1)
+    );
+    assert_eq!(rt; (shape.qp, shape.profile, shape.column), (27, 77, 0));
+    Ok(())
+}
