@@ -39,13 +39,6 @@ is_skip (B n) = false
 abbrev pub is_inter : MbKind → Bool
 is_inter k = not (is_intra k)
 
--- coded_block_pattern is sent (7.3.5): not in skipped, I_16x16 and I_PCM macroblocks
-abbrev pub sends_pattern : MbKind → Bool
-sends_pattern (Intra n) = n == 0
-sends_pattern Skip = false
-sends_pattern (P n) = true
-sends_pattern (B n) = true
-
 -- P_8x8, P_8x8ref0 and B_8x8
 abbrev pub has_sub_macroblocks : MbKind → Bool
 has_sub_macroblocks (P n) = n == 3

@@ -10,7 +10,10 @@ use Rattle.h264_types.specs.declared.macroblock.MbKind.TheVariants as kinds
 use Rattle.h264_types.specs.declared.slice_shape.SliceShape.{SliceShape}
 use Rattle.h264_types.specs.declared.slice_shape.SliceKind.{SliceKind}
 use Rattle.h264_types.specs.declared.slice_shape.SliceKind.TheVariants as slices
-use Rattle.h264_types.specs.Kind.{is_intra, is_i_nxn, is_i_16x16, is_i_pcm, sends_pattern}
+use Rattle.h264_types.specs.Kind.{is_intra, is_i_nxn, is_i_16x16, is_i_pcm}
+use Rattle.h264_types.specs.Sent.{sends_t8, mode_count, sends_pattern, sends_qp_delta}
+use Rattle.h264_types.specs.Sizes.{HasSizes}
+use Rattle.h264_types.specs.SliceShape.{IsSliceShape}
 use Rattle.h264_types.specs.Macroblock.{quarter_of, pattern_of}
 use Rattle.h264_types.specs.Partition.{prediction_of, uses_list, partition_of, part_of}
 use Rattle.h264_types.specs.Slice.{field_at, skipped_at, inferred_field}
@@ -30,22 +33,6 @@ is_kind_in slices.I (kinds.B n) = false
 is_kind_in slices.P (kinds.B n) = false
 is_kind_in slices.B (kinds.B n) = nat_le n 22
 
--- transform_size_8x8_flag is sent with the prediction modes of I_NxN, else after a luma pattern other than 0, where
--- no part is below 8x8 and direct ones follow direct_8x8_inference_flag (7.3.5)
-abbrev pub takes_t8 : Bool → MbKind → List ℕ → Bool
-takes_t8 direct8 (kinds.P n) subs = list_all (λ sub. sub == 0) subs
-takes_t8 direct8 (kinds.B n) subs =
-    if n == 0 then direct8
-    else if n == 22 then list_all (λ sub. nat_lt sub 4 && (direct8 || not (sub == 0))) subs
-    else true
-takes_t8 direct8 kinds.Skip subs = false
-takes_t8 direct8 (kinds.Intra n) subs = false
-
-abbrev pub sends_t8 : SliceShape → Mb → Bool
-sends_t8 shape mb =
-    shape.t8_mode
-    && (is_i_nxn mb.kind || (not (mb.pattern.luma == 0) && takes_t8 shape.direct8 mb.kind mb.subs))
-
 -- P_8x8ref0 sends no reference index, and all are 0
 abbrev pub is_ref0 : Mb → Bool
 is_ref0 mb = is_p_8x8 mb.kind && list_all (λ index. index == 0) (slice_index_or mb.refs 0 []) where
@@ -63,9 +50,8 @@ pub record IsTyped (shape : SliceShape) (mb : Mb) : Type 0 where
 
 -- ---- prediction (7.3.5.1, 7.3.5.2)
 
--- a mode per 4x4 block, with the 8x8 transform per quarter (7.3.5.1)
 abbrev pub mode_bound : Mb → ℕ → ℕ
-mode_bound mb k = if is_i_nxn mb.kind && (not mb.t8 || nat_lt k 4) then 8 else 0
+mode_bound mb k = if is_i_nxn mb.kind && nat_lt k (mode_count mb.t8) then 8 else 0
 
 abbrev pub chroma_mode_bound : MbKind → ℕ
 chroma_mode_bound kind = if is_intra kind && not (is_i_pcm kind) then 3 else 0
@@ -130,8 +116,7 @@ pub record IsInterPredicted (shape : SliceShape) (mb : Mb) : Type 0 where
 -- ---- residual (7.3.5.3)
 
 abbrev pub qp_delta_bound : Mb → ℕ
-qp_delta_bound mb =
-    if is_i_16x16 mb.kind || not (mb.pattern.luma == 0 && mb.pattern.chroma == 0) then 26 else 0
+qp_delta_bound mb = if sends_qp_delta mb.kind mb.pattern then 26 else 0
 
 abbrev pub dc_bound : MbKind → ℕ
 dc_bound kind = if is_i_16x16 kind then 65535 else 0
@@ -169,7 +154,7 @@ pub record IsPattern (mb : Mb) : Type 0 where
   pub luma : mb.pattern.luma ≤ pattern_bound mb.kind 15
   pub chroma : mb.pattern.chroma ≤ pattern_bound mb.kind 2
 
--- mb_qp_delta, from -26 to 25, where a residual can follow
+-- mb_qp_delta, from -26 to 25
 pub record IsQpDelta (mb : Mb) : Type 0 where
   pub magnitude : unsigned_abs mb.qp_delta ≤ qp_delta_bound mb
   pub greatest : mb.qp_delta ≤ℤ pos 25
@@ -187,6 +172,7 @@ pub record IsCoded (mb : Mb) : Type 0 where
 -- ---- whole lists (7.3.4)
 
 pub record IsMacroblock (shape : SliceShape) (mb : Mb) : Type 0 where
+  pub sizes : HasSizes mb
   pub typed : IsTyped shape mb
   pub intra : IsIntraPredicted mb
   pub inter : IsInterPredicted shape mb
@@ -205,6 +191,7 @@ pub record ArePairs (shape : SliceShape) (mbs : List Mb) : Type 0 where
   pub each : (pair : ℕ) → 2 * pair + 1 < length mbs → IsPair shape mbs pair
 
 pub record IsSlice (shape : SliceShape) (mbs : List Mb) : Type 0 where
+  pub is_shape : IsSliceShape shape
   pub some : 0 < length mbs
   pub inside : shape.first + length mbs ≤ shape.width * shape.height
   pub macroblocks : All (IsMacroblock shape) mbs

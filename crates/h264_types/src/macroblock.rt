@@ -64,17 +64,6 @@ impl MbKind {
         !self.is_intra()
     }
 
-    /// Whether coded_block_pattern is sent (7.3.5): neither in skipped nor in I_16x16 and I_PCM macroblocks.
-    pub fn sends_pattern(self) -> bool
-        ensures { result ≡ kind.sends_pattern self }
-    {
-        match self {
-            MbKind::Intra(number) => number == 0,
-            MbKind::P(_) | MbKind::B(_) => true,
-            MbKind::Skip => false,
-        }
-    }
-
     /// P_8x8, P_8x8ref0 and B_8x8: four sub_mb_type are sent (7.3.5.2).
     pub fn has_sub_macroblocks(self) -> bool
         ensures { result ≡ kind.has_sub_macroblocks self }

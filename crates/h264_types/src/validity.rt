@@ -4,9 +4,11 @@ ghost use Rattle.std.specs.List.{list_all};
 ghost use Rattle.h264_types.specs.Partition.{partition_of, part_of};
 ghost use Rattle.h264_types.specs.Macroblock.{quarter_of, pattern_of};
 ghost use Rattle.h264_types.specs.Slice.{IsInPicture};
-ghost use Rattle.h264_types.specs.Valid.{RefsRepeat, MvdRepeats, IsListSent, IsQuarterCoded, IsLumaCoded, IsChromaCoded, IsQpDelta, IsPattern, pattern_bound, qp_delta_bound, sample_bound, luma_bound, last_luma_bound, dc_bound, chroma_dc_bound, chroma_ac_bound, mode_bound, sub_bound, ref_at, ref_bound, mvd_of, mvd_bound, list_is_used, is_kind_in, sends_t8, is_ref0, IsTyped, IsIntraPredicted, IsInterPredicted, IsCoded, IsMacroblock, IsPair, ArePairs, IsSlice, takes_t8, IsWithin};
+ghost use Rattle.h264_types.specs.Valid.{RefsRepeat, MvdRepeats, IsListSent, IsQuarterCoded, IsLumaCoded, IsChromaCoded, IsQpDelta, IsPattern, pattern_bound, qp_delta_bound, sample_bound, luma_bound, last_luma_bound, dc_bound, chroma_dc_bound, chroma_ac_bound, mode_bound, sub_bound, ref_at, ref_bound, mvd_of, mvd_bound, list_is_used, is_kind_in, is_ref0, IsTyped, IsIntraPredicted, IsInterPredicted, IsCoded, IsMacroblock, IsPair, ArePairs, IsSlice, IsWithin};
 
 use crate::macroblock::{Mb, MbKind};
+use crate::sent::mode_count;
+use crate::sizes::has_sizes;
 use crate::slice_order::{inferred_field, is_field_at, is_skipped_at};
 use crate::slice_shape::{SliceKind, SliceShape};
 
@@ -23,41 +25,6 @@ fn is_kind_of(slice: SliceKind, kind: MbKind) -> bool
     }
 }
 
-/// Whether no sub-macroblock of a P macroblock is split.
-fn are_whole(subs: &[u8]) -> bool
-    ensures { result ≡ list_all (λ sub. sub == 0) subs.now }
-{
-    subs.iter().all(|sub| *sub == 0)
-}
-
-fn take_t8_in_b(direct8: bool, subs: &[u8]) -> bool
-    ensures { result ≡ list_all (λ sub. nat_lt sub 4 && (direct8 || not (sub == 0))) subs.now }
-{
-    subs.iter().all(|sub| *sub < 4 && (direct8 || *sub != 0))
-}
-
-/// Whether no part of a P or B macroblock is smaller than 8x8, where direct ones are as direct_8x8_inference_flag says; then
-/// transform_size_8x8_flag is sent for it where its luma pattern isn't 0 (7.3.5).
-pub fn allows_t8(direct8: bool, kind: MbKind, subs: &[u8]) -> bool
-    ensures { result ≡ takes_t8 direct8 kind subs.now }
-{
-    match kind {
-        MbKind::P(_) => are_whole(subs),
-        MbKind::B(0) => direct8,
-        MbKind::B(22) => take_t8_in_b(direct8, subs),
-        MbKind::B(_) => true,
-        MbKind::Skip | MbKind::Intra(_) => false,
-    }
-}
-
-fn may_send_t8(shape: &SliceShape, mb: &Mb) -> bool
-    ensures { result ≡ sends_t8 shape.now mb.now }
-{
-    shape.t8_mode
-        && (mb.kind.is_i_nxn()
-            || mb.pattern.luma != 0 && allows_t8(shape.direct8, mb.kind, &mb.subs))
-}
-
 /// Whether P_8x8ref0 says the same as this type and its reference indices (Table 7-13).
 pub fn is_p_8x8ref0(mb: &Mb) -> bool
     ensures { result ≡ is_ref0 mb.now }
@@ -71,7 +38,7 @@ fn is_typed(shape: &SliceShape, mb: &Mb) -> bool
     is_kind_of(shape.kind, mb.kind)
         && (!mb.ref0 || is_p_8x8ref0(mb))
         && (!mb.field || shape.mbaff)
-        && (!mb.t8 || may_send_t8(shape, mb))
+        && (!mb.t8 || shape.sends_t8_first(mb.kind) || shape.sends_t8_last(mb))
 }
 
 fn is_within(bound: u32, values: &[i32]) -> bool
@@ -83,7 +50,7 @@ fn is_within(bound: u32, values: &[i32]) -> bool
 fn greatest_mode(mb: &Mb, place: u8) -> u8
     ensures { result ≡ mode_bound mb.now place }
 {
-    if mb.kind.is_i_nxn() && (!mb.t8 || place < 4) {
+    if mb.kind.is_i_nxn() && (place as usize) < mode_count(mb.t8) {
         8
     } else {
         0
@@ -397,7 +364,7 @@ fn greatest_in_pattern(kind: MbKind, greatest: u8) -> u8
 fn greatest_qp_delta(mb: &Mb) -> u8
     ensures { result ≡ qp_delta_bound mb.now }
 {
-    if mb.kind.is_i_16x16() || !(mb.pattern.luma == 0 && mb.pattern.chroma == 0) {
+    if mb.kind.sends_qp_delta(mb.pattern) {
         26
     } else {
         0
@@ -436,6 +403,7 @@ fn is_coded(mb: &Mb) -> bool
 fn is_macroblock(shape: &SliceShape, mb: &Mb) -> bool
     ensures { IsTrue result ↔ IsMacroblock shape.now mb.now }
 {
+    has_sizes(mb);
     is_typed(shape, mb) && is_intra_predicted(mb) && is_inter_predicted(shape, mb) && is_coded(mb)
 }
 
@@ -481,12 +449,13 @@ fn is_inside(shape: &SliceShape, count: usize) -> bool
     count <= picture && shape.first as usize <= picture - count
 }
 
-/// Whether the macroblocks are those of a slice of this shape: each element present where 7.3.5 sends it and in its
-/// range, addresses inside the picture, and in MBAFF whole pairs with one flag each, inferred where both are skipped.
+/// Whether the macroblocks are those of a slice of this shape: the shape of a picture of Main or High within the limits,
+/// each element present where 7.3.5 sends it and in its range, addresses inside the picture, and in MBAFF whole pairs with one flag each, inferred where both are skipped.
 pub fn valid(shape: &SliceShape, mbs: &[Mb]) -> bool
     ensures { IsTrue result ↔ IsSlice shape.now mbs.now }
 {
-    !mbs.is_empty()
+    shape.is_shape()
+        && !mbs.is_empty()
         && is_inside(shape, mbs.len())
         && are_macroblocks(shape, mbs)
         && (!shape.mbaff || are_pairs(shape, mbs))
