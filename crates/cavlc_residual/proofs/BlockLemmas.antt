@@ -426,11 +426,12 @@ none_above_20 s extra (l ∷ ls) h small =
     ap (λ b. b || is_above 20 (next_suffix_length s l) 0 ls) (le-ltb 20 (level_word s (code_of l - extra)).0 w)
     ∙ none_above_20 (next_suffix_length s l) 0 ls (next_suffix_length-small s l h) small.1
 
-pub never_beyond : (levels : List ℤ) → AllSmall levels → is_beyond 20 levels ≡ false
-never_beyond levels small =
-    let ls = filter is_nonzero (reverse levels) in
+pub levels_never_above : (ls : List ℤ) → AllSmall ls → levels_above 20 ls ≡ false
+levels_never_above ls small =
     let o = trailing_ones ls in
-    let in_range = all_filter _ is_nonzero (reverse levels) (all_reverse _ levels small) in
     let P : List ℤ → Type 0 = λ t. AllSmall t in
     none_above_20 (first_suffix_length (length ls) o) (first_extra o) (drop o ls) (first_suffix_length-small (length ls) o)
-    (all_parts _ (take o ls) (drop o ls) (subst P (sym (take-append-drop o ls)) in_range)).1
+    (all_parts _ (take o ls) (drop o ls) (subst P (sym (take-append-drop o ls)) small)).1
+
+pub never_beyond : (levels : List ℤ) → AllSmall levels → is_beyond 20 levels ≡ false
+never_beyond levels small = levels_never_above (filter is_nonzero (reverse levels)) (all_filter _ is_nonzero (reverse levels) (all_reverse _ levels small))

@@ -218,21 +218,23 @@ coefficients_weaker bound s e (l ∷ ls) h are = (
   coefficients_weaker bound (next_suffix_length s l) 0 ls h are.1,
 )
 
-pub others_known : (levels cs others : List ℤ) (o : ℕ) → cs ≡ filter is_nonzero (reverse levels) → AllSmall levels → others ≡ drop o cs → AllNonzero others × AllSmall others
-others_known levels cs others o e small back =
+-- of the levels other than 0 of a block in range
+pub found_known : (levels cs : List ℤ) → cs ≡ filter is_nonzero (reverse levels) → AllSmall levels → AllNonzero cs × AllSmall cs
+found_known levels cs e small =
     let P : List ℤ → Type 0 = λ t. AllNonzero t in
-    let Q : List ℤ → Type 0 = λ t. AllSmall t in
-    let cut = take-append-drop o cs in
-    let nonzero = subst P (sym e) (AllNonzero-filter (reverse levels)) in
-    let in_range = subst Q (sym e) (all_filter _ is_nonzero (reverse levels) (all_reverse _ levels small)) in (
-      subst P (sym back) (all_parts _ (take o cs) (drop o cs) (subst P (sym cut) nonzero)).1,
-      subst Q (sym back) (all_parts _ (take o cs) (drop o cs) (subst Q (sym cut) in_range)).1,
+    let Q : List ℤ → Type 0 = λ t. AllSmall t in (
+      subst P (sym e) (AllNonzero-filter (reverse levels)),
+      subst Q (sym e) (all_filter _ is_nonzero (reverse levels) (all_reverse _ levels small)),
     )
 
-pub above_is : (bound : ℕ) (levels cs others : List ℤ) (o t s e : ℕ) (r : Bool) → cs ≡ filter is_nonzero (reverse levels) → o ≡ trailing_ones cs → t ≡ length cs → others ≡ drop o cs → s ≡ first_suffix_length t o → e ≡ first_extra o → r ≡ is_above bound s e others → is_beyond bound levels ≡ r
-above_is bound levels cs others o t s e r found ones total back length_is extra_is answer =
-    ap (levels_above bound) (sym found)
-    ∙ (ap (λ k. is_above bound (first_suffix_length (length cs) k) (first_extra k) (drop k cs)) (sym ones)
+pub others_all : (P : ℤ → Type 0) (cs others : List ℤ) (o : ℕ) → others ≡ drop o cs → AllByRecursion P cs → AllByRecursion P others
+others_all P cs others o back all =
+    let Q : List ℤ → Type 0 = λ t. AllByRecursion P t in
+    subst Q (sym back) (all_parts P (take o cs) (drop o cs) (subst Q (sym (take-append-drop o cs)) all)).1
+
+pub above_is : (bound : ℕ) (cs others : List ℤ) (o t s e : ℕ) (r : Bool) → o ≡ trailing_ones cs → t ≡ length cs → others ≡ drop o cs → s ≡ first_suffix_length t o → e ≡ first_extra o → r ≡ is_above bound s e others → r ≡ levels_above bound cs
+above_is bound cs others o t s e r ones total back length_is extra_is answer =
+    sym (ap (λ k. is_above bound (first_suffix_length (length cs) k) (first_extra k) (drop k cs)) (sym ones)
     ∙ (ap (λ n. is_above bound (first_suffix_length n o) (first_extra o) (drop o cs)) (sym total)
     ∙ (ap (λ n. is_above bound n (first_extra o) (drop o cs)) (sym length_is)
     ∙ (ap (λ n. is_above bound s n (drop o cs)) (sym extra_is)
@@ -240,11 +242,8 @@ above_is bound levels cs others o t s e r found ones total back length_is extra_
 
 pub levels_known : (bound : ℕ) (levels cs : List ℤ) → bound ≤ 20 → cs ≡ filter is_nonzero (reverse levels) → AllSmall levels → is_beyond bound levels ≡ false → AreLevels (length cs, trailing_ones cs) 20 cs
 levels_known bound levels cs h found small within =
-    let P : List ℤ → Type 0 = λ t. AllNonzero t in
-    let Q : List ℤ → Type 0 = λ t. AllSmall t in
-    let nonzero = subst P (sym found) (AllNonzero-filter (reverse levels)) in
-    let in_range = subst Q (sym found) (all_filter _ is_nonzero (reverse levels) (all_reverse _ levels small)) in
-    let are = levels_are bound cs (ap (levels_above bound) found ∙ within) nonzero in_range in
+    let known = found_known levels cs found small in
+    let are = levels_are bound cs (ap (levels_above bound) found ∙ within) known.0 known.1 in
     record { count = are.count; ones = are.ones; others = coefficients_weaker bound _ _ _ h are.others }
 
 pub zeros_fit : (levels cs : List ℤ) (rs : List ℕ) → cs ≡ filter is_nonzero (reverse levels) → rs ≡ runs_of (reverse levels) → length cs + sum rs ≤ length levels

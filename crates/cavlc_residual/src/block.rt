@@ -6,14 +6,13 @@ ghost use Rattle.cavlc_residual.specs.Coefficients.{magnitude};
 ghost use Rattle.cavlc_residual.specs.Block.{IsShape, trailing_ones, total_coeff, levels_text, parts_text, block_text, is_beyond, IsBlock};
 ghost use Rattle.cavlc_residual.specs.Parts.{AreLevels, scan_of};
 
+use crate::beyond::levels_above;
 use crate::coefficients::Coefficients;
 use crate::fault::BlockFault;
 use crate::parts::{extra_first, read_nonzero, read_token, suffix_length_first};
 use crate::runs::{Runs, read_runs, read_total_zeros};
 use crate::words::write_code;
-use crate::writing::{
-    count_ones, is_above_bound, separate, write_coefficients, write_runs, write_signs,
-};
+use crate::writing::{count_ones, separate, write_coefficients, write_runs, write_signs};
 use code_tables::{coeff_token_table, total_zeros_table};
 use exp_golomb::{BitSink, BitSource};
 use h264_types::Levels;
@@ -144,11 +143,7 @@ pub fn write_levels<B: BitSink>(
     ensures written { result ≢ Err BlockFault.Beyond → Appends (B.bits b.old) (B.bits b.new) (block_text nc levels.now) result }
 {
     let (coefficients, runs) = separate(levels);
-    let total = coefficients.len() as u8;
-    let ones = count_ones(coefficients.as_slice());
-    let (_signs, others) = coefficients.as_slice().split_at(usize::from(ones));
-    let suffix_length = suffix_length_first(total, ones);
-    if is_above_bound(others, suffix_length, extra_first(ones), bound) {
+    if levels_above(&coefficients, bound) {
         return Err(BlockFault::Beyond);
     }
     write_parts(b, nc, levels.len() as u8, &coefficients, &runs)?;

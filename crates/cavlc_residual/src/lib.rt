@@ -2,6 +2,7 @@
 //! The text of a block stands in specs/, from the highest frequency down as the standard has it.
 #![tactic(auto)]
 
+mod beyond;
 mod block;
 mod coefficients;
 mod fault;
@@ -12,6 +13,7 @@ mod runs;
 mod words;
 mod writing;
 
+pub use beyond::is_beyond;
 pub use block::{read_block, read_levels, write_block, write_levels};
 pub use fault::BlockFault;
 

@@ -3,9 +3,9 @@ ghost use Rattle.std.specs.List.{AllByRecursion};
 ghost use Rattle.arrayvec.specs.ArrayVec.{array_vec_len};
 ghost use Rattle.bit_texts.specs.Texts.{Appends};
 ghost use Rattle.cavlc_residual.specs.Coefficients.{magnitude, is_minus, coefficients_text, AreCoefficients};
-ghost use Rattle.cavlc_residual.specs.Block.{is_nonzero, runs_of, is_one as one_test, trailing_ones, runs_text, is_above};
+ghost use Rattle.cavlc_residual.specs.Block.{is_nonzero, runs_of, is_one as one_test, trailing_ones, runs_text};
 
-use crate::coefficients::{Coefficients, is_prefix_above, suffix_length_after, write_coefficient};
+use crate::coefficients::{Coefficients, suffix_length_after, write_coefficient};
 use crate::runs::{Runs, write_run};
 use exp_golomb::BitSink;
 use std::alloc::AllocError as Memory;
@@ -78,30 +78,6 @@ fn is_one(level: i32) -> bool
     ensures { result ≡ one_test level }
 {
     level == 1 || level == -1
-}
-
-/// Whether some level needs a level_prefix above the bound. None needs one above 20.
-pub fn is_above_bound(levels: &[i32], suffix_length: u8, extra: u8, bound: u8) -> bool
-    requires nonzero { AllByRecursion (λ l. is_nonzero l ≡ true) levels.now }
-    requires level_small { AllByRecursion (λ l. magnitude l ≤ 65535) levels.now }
-    requires small { suffix_length ≤ 6 }
-    requires within { bound ≤ 20 }
-    ensures { result ≡ is_above bound suffix_length extra levels.now }
-{
-    if bound == 20 {
-        return false;
-    }
-    let mut suffix_length = suffix_length;
-    let mut extra = extra;
-    for i in 0..levels.len() {
-        let level = levels[i];
-        if is_prefix_above(level, suffix_length, extra, bound) {
-            return true;
-        }
-        suffix_length = suffix_length_after(suffix_length, level);
-        extra = 0;
-    }
-    false
 }
 
 /// Appends the signs of trailing ones.

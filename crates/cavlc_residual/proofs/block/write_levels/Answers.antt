@@ -1,28 +1,20 @@
-use Rattle.std.proofs.Common.{List, length, refl, Bool, ℤ, ◌∙◌, ap, subst, w8, arith}
+use Rattle.std.proofs.Common.{List, length, refl, Bool, ℤ, ◌∙◌, ap, sym, subst, w8, arith}
 use Rattle.std.proofs.lemmas.Int.{to_z-of_z}
 use Rattle.cavlc_residual.proofs.Pieces.{AppendsFront, Appends-front}
-use Rattle.cavlc_residual.specs.Block.{trailing_ones, parts_text}
-use Rattle.cavlc_residual.proofs.WriteLemmas.{others_known, above_is, levels_known, zeros_fit, split_back, text_is}
+use Rattle.cavlc_residual.specs.Block.{levels_above, parts_text}
+use Rattle.cavlc_residual.proofs.WriteLemmas.{found_known, levels_known, zeros_fit, text_is}
 use Rattle.cavlc_residual.proofs.block.write_levels.Goals as goal
 
-pub is_above_bound-requires-clause-nonzero : goal.is_above_bound-requires-clause-nonzero
-is_above_bound-requires-clause-nonzero g c =
-    (others_known c.args.levels.now c.separate-coefficients.result.0.items _ _ c.separate-coefficients.ensures.levels c.requires.small
-    (c.split_at.ensures.back ∙ split_back _ _ _ _ c.from.ensures c.as_slice-2.ensures.value)).0
+pub levels_above-requires-clause-nonzero : goal.levels_above-requires-clause-nonzero
+levels_above-requires-clause-nonzero g c = (found_known c.args.levels.now _ c.separate-coefficients.ensures.levels c.requires.small).0
 
-pub is_above_bound-requires-clause-level_small : goal.is_above_bound-requires-clause-level_small
-is_above_bound-requires-clause-level_small g c =
-    (others_known c.args.levels.now c.separate-coefficients.result.0.items _ _ c.separate-coefficients.ensures.levels c.requires.small
-    (c.split_at.ensures.back ∙ split_back _ _ _ _ c.from.ensures c.as_slice-2.ensures.value)).1
+pub levels_above-requires-clause-small : goal.levels_above-requires-clause-small
+levels_above-requires-clause-small g c = (found_known c.args.levels.now _ c.separate-coefficients.ensures.levels c.requires.small).1
 
 pub write_parts-requires-clause-levels : goal.write_parts-requires-clause-levels
 write_parts-requires-clause-levels g c =
     levels_known c.args.bound c.args.levels.now c.separate-coefficients.result.0.items c.requires.within c.separate-coefficients.ensures.levels c.requires.small
-    (above_is c.args.bound c.args.levels.now c.separate-coefficients.result.0.items _ c.count_ones-ones.result c.len-total.result _ _ _ c.separate-coefficients.ensures.levels
-    (c.count_ones-ones.ensures ∙ ap trailing_ones c.as_slice.ensures.value) c.len-total.ensures.value
-    (c.split_at.ensures.back ∙ split_back _ _ _ _ c.from.ensures c.as_slice-2.ensures.value)
-    c.suffix_length_first-suffix_length.ensures.value c.extra_first.ensures.value c.is_above_bound.ensures
-    ∙ c.if-is_above_bound.false)
+    (ap (levels_above c.args.bound) (sym c.separate-coefficients.ensures.levels) ∙ sym c.levels_above.ensures ∙ c.if-levels_above.false)
 
 pub write_parts-requires-clause-zeros : goal.write_parts-requires-clause-zeros
 write_parts-requires-clause-zeros g c =
