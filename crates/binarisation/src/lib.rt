@@ -6,8 +6,6 @@ mod codes;
 mod elements;
 mod flags;
 pub mod laws;
-#[cfg(test)]
-mod tests;
 mod types;
 mod ueg;
 mod vectors;

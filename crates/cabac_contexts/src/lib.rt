@@ -17,6 +17,3 @@ pub use increments::{
     ctx_inc_type_i,
 };
 pub use out_coder::OutCoder;
-
-#[cfg(test)]
-mod tests;

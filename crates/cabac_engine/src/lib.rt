@@ -12,8 +12,6 @@ mod encoder;
 pub mod laws;
 mod low_bits;
 mod pending_bits;
-#[cfg(test)]
-mod tests;
 
 pub use bin_sink::BinSink;
 pub use bin_source::BinSource;

@@ -8,8 +8,6 @@ pub mod laws;
 mod macroblock;
 mod pattern;
 mod prediction;
-#[cfg(test)]
-mod tests;
 mod transform_size;
 
 pub use macroblock::{read_macroblock, write_macroblock};

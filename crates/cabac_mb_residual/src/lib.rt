@@ -6,7 +6,5 @@ mod chroma;
 pub mod laws;
 mod luma;
 mod residual;
-#[cfg(test)]
-mod tests;
 
 pub use residual::{read_residual, write_residual};

@@ -7,7 +7,5 @@ mod contexts;
 pub mod laws;
 mod level;
 mod marks;
-#[cfg(test)]
-mod tests;
 
 pub use block::{read_block, read_levels, write_block, write_levels};

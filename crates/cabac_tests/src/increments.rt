@@ -1,134 +1,12 @@
-ghost use Rattle.std.specs.Prelude.{◌≡◌, ◌<◌, ◌≤◌, false, length, OnOk, OnSome};
+//! The increments of ctxIdx by the neighbours (9.3.3.1.1), worked out by hand.
+ghost use Rattle.std.specs.Prelude.{◌≡◌, ◌<◌, ◌≤◌};
 ghost use Rattle.cabac_contexts.specs.Increments.{IsBlock};
 
-use super::*;
-use cabac_engine::{BinSink, BinSource, Decoder, Encoder};
-use exp_golomb::{BitSink, BitVec, SliceBits};
+use cabac_contexts::{
+    ctx_inc_block, ctx_inc_chroma, ctx_inc_chroma_mode, ctx_inc_luma, ctx_inc_qp_delta, ctx_inc_t8,
+    ctx_inc_type_i,
+};
 use h264_types::{Mb, MbKind, Pattern, SliceKind, SliceShape};
-use init_table::InitTable;
-use std::alloc::{AllocError as Memory, Global};
-use std::test::Fail;
-
-/// The table that has these four pairs for each context.
-fn table(alloc: Global, pairs: &str) -> Result<Option<InitTable>, Memory> {
-    let mut text = String::new(alloc);
-    for _ctx in 0..460 {
-        text.push_str(pairs)?;
-    }
-    Ok(InitTable::of(text.as_str()).ok())
-}
-
-/// A column, SliceQP, and the state that each context starts with.
-#[test]
-fn contexts_start_by_their_pairs(rt: HostRuntime) -> Result<(), Fail> {
-    match table(rt.alloc(), "0 64 20 -15 -28 127 -128 -128 ")? {
-        None => assert!(rt; false),
-        Some(init) => {
-            for (column, qp, p, mps) in [
-                (0, 0, 0, true),
-                (0, 51, 0, true),
-                (1, 26, 46, false),
-                (1, 51, 15, false),
-                (2, 51, 26, false),
-                (2, 0, 62, true),
-                (3, 30, 62, false),
-            ] {
-                assert!(rt; qp <= 51 && column < 4);
-                let contexts = Contexts::start(&init, qp, column);
-                for ctx in [0, 11, 459] {
-                    assert!(rt; ctx < 460);
-                    let cell = contexts.cell(ctx);
-                    assert_eq!(rt; (cell.p, cell.mps), (p, mps), "column {column}, QP {qp}");
-                }
-            }
-        }
-    }
-    Ok(())
-}
-
-/// Seven bins of two contexts and the other kinds.
-fn put_bins<S: BinSink>(s: &mut S) -> Result<(), Memory>
-    requires { S.over s.old ≡ false }
-    ensures { OnOk result (S.over s.new ≡ false) }
-{
-    s.bin(11, true)?;
-    s.bin(11, false)?;
-    s.bin(459, true)?;
-    s.bypass(true)?;
-    s.end(false)?;
-    s.bin(11, true)?;
-    s.bin(459, false)?;
-    Ok(())
-}
-
-/// The bins of these kinds from a source.
-fn take_bins<S: BinSource>(s: &mut S) -> Option<[bool; 7]>
-    requires { S.over s.old ≡ false }
-    ensures { OnSome result (S.over s.new ≡ false) }
-{
-    let first = s.bin(11)?;
-    let second = s.bin(11)?;
-    let third = s.bin(459)?;
-    let bypass = s.bypass()?;
-    let end = s.end()?;
-    if end {
-        return None;
-    }
-    let fourth = s.bin(11)?;
-    let last = s.bin(459)?;
-    Some([first, second, third, bypass, end, fourth, last])
-}
-
-fn filled(bits: BitVec) -> Result<Option<Vec<u8>>, Memory> {
-    let mut bits = bits;
-    for _i in 0..7 {
-        if !bits.aligned() {
-            bits.put(false)?;
-        }
-    }
-    if bits.aligned() {
-        Ok(Some(bits.into_bytes()))
-    } else {
-        Ok(None)
-    }
-}
-
-#[test]
-fn bins_come_back_with_their_contexts(rt: HostRuntime) -> Result<(), Fail> {
-    let Ok(init) = InitTable::of("flat") else {
-        assert!(rt; false);
-        return Ok(());
-    };
-    let encoder = Encoder::start(rt.alloc(), BitVec::new(rt.alloc()));
-    let mut out = OutCoder::new(Contexts::start(&init, 26, 0), encoder);
-    put_bins(&mut out)?;
-    out.end(true)?;
-    let (written, bits) = out.close()?;
-    let Some(bytes) = filled(bits)? else {
-        assert!(rt; false);
-        return Ok(());
-    };
-    match Decoder::start(SliceBits::new(bytes.as_slice())) {
-        Err(_) => assert!(rt; false),
-        Ok(decoder) => {
-            let mut coder = InCoder::new(Contexts::start(&init, 26, 0), decoder);
-            let bins = take_bins(&mut coder);
-            assert_eq!(rt; bins, Some([true, false, true, true, false, true, false]));
-            if bins.is_some() {
-                assert_eq!(rt; coder.end(), Some(true));
-            }
-            let (read, _bits) = coder.into_parts();
-            // up by a most probable value, down by another one; and context 0 has no bin
-            for (ctx, p, mps) in [(11, 1, true), (459, 0, true), (0, 0, true)] {
-                assert!(rt; ctx < 460);
-                let cells = (written.cell(ctx), read.cell(ctx));
-                assert_eq!(rt; (cells.0.p, cells.0.mps), (p, mps));
-                assert_eq!(rt; (cells.1.p, cells.1.mps), (p, mps));
-            }
-        }
-    }
-    Ok(())
-}
 
 /// Three macroblocks in a row, of which number 4 has number 3 to the left and number 1 above.
 fn shape() -> SliceShape
@@ -159,21 +37,14 @@ fn macroblock(kind: MbKind, luma: u8, chroma: u8) -> Mb {
 }
 
 /// The four macroblocks before number 4.
-fn before(alloc: Global, left: &Mb, above: &Mb) -> Result<Vec<Mb>, Memory> {
-    let mut done = Vec::new(alloc);
-    for number in 0..4 {
-        done.push(match number {
-            1 => *above,
-            3 => *left,
-            _ => Mb::without_elements(MbKind::Skip),
-        })?;
-    }
-    Ok(done)
+fn before(left: &Mb, above: &Mb) -> [Mb; 4] {
+    let skip = Mb::without_elements(MbKind::Skip);
+    [skip, *above, skip, *left]
 }
 
 /// The kinds to the left and above, and the increments of mb_type and of the chroma bins.
 #[test]
-fn increments_by_kinds_and_patterns(rt: HostRuntime) -> Result<(), Fail> {
+fn increments_by_kinds_and_patterns(rt: HostRuntime) {
     let pcm = Mb::without_elements(MbKind::Intra(25));
     let mut none = macroblock(MbKind::Intra(0), 15, 0);
     none.t8 = true;
@@ -193,8 +64,7 @@ fn increments_by_kinds_and_patterns(rt: HostRuntime) -> Result<(), Fail> {
         (&pcm, &ac, [2, 0, 0, 2, 3, 3]),
         (&skip, &skip, [2, 0, 0, 3, 0, 0]),
     ] {
-        let done = before(rt.alloc(), left, above)?;
-        assert!(rt; done.len() == 4);
+        let done = before(left, above);
         let found = [
             ctx_inc_type_i(&shape(), &done, 4, false, &current),
             ctx_inc_chroma_mode(&shape(), &done, 4, false, &current),
@@ -205,17 +75,15 @@ fn increments_by_kinds_and_patterns(rt: HostRuntime) -> Result<(), Fail> {
         ];
         assert_eq!(rt; found, wanted);
     }
-    Ok(())
 }
 
 /// The quarters of the current macroblock have a bit or none, and those beside it too.
 #[test]
-fn increments_of_luma_quarters(rt: HostRuntime) -> Result<(), Fail> {
+fn increments_of_luma_quarters(rt: HostRuntime) {
     // quarter 1 of the left macroblock and quarter 2 of that above have a bit
     let left = macroblock(MbKind::Intra(0), 2, 0);
     let above = macroblock(MbKind::Intra(0), 4, 0);
-    let done = before(rt.alloc(), &left, &above)?;
-    assert!(rt; done.len() == 4);
+    let done = before(&left, &above);
     // the bits so far, the quarter, its increment
     for (luma, quarter, wanted) in [
         (0, 0, 0),
@@ -238,7 +106,6 @@ fn increments_of_luma_quarters(rt: HostRuntime) -> Result<(), Fail> {
         let alone = ctx_inc_luma(&shape(), &[], 0, false, &current, 0);
         assert_eq!(rt; alone, 0);
     }
-    Ok(())
 }
 
 #[test]
@@ -270,7 +137,7 @@ fn blocks_without_neighbours(rt: HostRuntime) {
 
 /// Macroblocks to the left and above, a block, and its increment.
 #[test]
-fn blocks_beside_others(rt: HostRuntime) -> Result<(), Fail> {
+fn blocks_beside_others(rt: HostRuntime) {
     let pcm = Mb::without_elements(MbKind::Intra(25));
     let skip = Mb::without_elements(MbKind::Skip);
     // levels everywhere that a block 0 looks at, in I_NxN and in I_16x16
@@ -308,15 +175,14 @@ fn blocks_beside_others(rt: HostRuntime) -> Result<(), Fail> {
         (&full, &large, 4, 0, 0),
         (&dropped, &transformed, 4, 1, 0),
     ] {
-        let done = before(rt.alloc(), left, above)?;
-        assert!(rt; done.len() == 4 && cat < 5 && comp < 2);
+        let done = before(left, above);
+        assert!(rt; cat < 5 && comp < 2);
         assert_eq!(rt;
             ctx_inc_block(&shape(), &done, 4, false, &current, cat, comp, 0),
             wanted,
             "category {cat}, component {comp}"
         );
     }
-    Ok(())
 }
 
 /// Blocks inside the current macroblock: 2 is to the left of 3, and 1 above it.
