@@ -11,7 +11,7 @@ use Rattle.exp_golomb.specs.Code.{Se, IsIn, ue, se}
 use Rattle.exp_golomb.proofs.Fronts.{IsPrefixFree-code, in_se}
 use Rattle.cavlc_inter.proofs.Codes.{IsPrefixFree-ue}
 use Rattle.code_tables.specs.CodedBlockPattern.{pattern_at, pattern_list}
-use Rattle.code_tables.specs.declared.patterns.TheConstants.{INTRA_PATTERNS, INTRA_CODES, INTER_PATTERNS, INTER_CODES}
+use Rattle.code_tables.specs.declared.patterns.TheConstants.{INTRA_CODES, INTER_CODES}
 use Rattle.code_tables.proofs.CodeTables.{all_below-at}
 use Rattle.code_tables.proofs.PatternCodes.{intra_found, inter_found, pattern_small, one_code}
 use Rattle.h264_types.specs.declared.macroblock.Pattern.{Pattern}
@@ -48,13 +48,13 @@ IsPrefixFree-mode v w x y p q e =
 
 place_in-code : (intra : Bool) (n : ℕ) → n < 48 → place_in (pattern_list intra) n ≡ get_or (if intra then INTRA_CODES else INTER_CODES) n 0
 unfolding place_in
-place_in-code true n h = eqb-true _ _ (all_below-at (λ k. eqb (place_in INTRA_PATTERNS k) (get_or INTRA_CODES k 0)) 48 n refl h)
-place_in-code false n h = eqb-true _ _ (all_below-at (λ k. eqb (place_in INTER_PATTERNS k) (get_or INTER_CODES k 0)) 48 n refl h)
+place_in-code true n h = eqb-true _ _ (all_below-at (λ k. eqb (place_in (pattern_list true) k) (get_or INTRA_CODES k 0)) 48 n refl h)
+place_in-code false n h = eqb-true _ _ (all_below-at (λ k. eqb (place_in (pattern_list false) k) (get_or INTER_CODES k 0)) 48 n refl h)
 
 place_in-small : (intra : Bool) (n : ℕ) → n < 48 → place_in (pattern_list intra) n ≤ 47
 unfolding place_in
-place_in-small true n h = let below = ltb-true _ _ (all_below-at (λ k. nat_lt (place_in INTRA_PATTERNS k) 48) 48 n refl h) in omega (arith, below)
-place_in-small false n h = let below = ltb-true _ _ (all_below-at (λ k. nat_lt (place_in INTER_PATTERNS k) 48) 48 n refl h) in omega (arith, below)
+place_in-small true n h = let below = ltb-true _ _ (all_below-at (λ k. nat_lt (place_in (pattern_list true) k) 48) 48 n refl h) in omega (arith, below)
+place_in-small false n h = let below = ltb-true _ _ (all_below-at (λ k. nat_lt (place_in (pattern_list false) k) 48) 48 n refl h) in omega (arith, below)
 
 place_in-found : (intra : Bool) (p : Pattern) → p.luma ≤ 15 → p.chroma ≤ 2 → pattern_at intra (place_in (pattern_list intra) (16 * p.chroma + p.luma)) ≡ Some p
 place_in-found true p l c = ap (pattern_at true) (place_in-code true (16 * p.chroma + p.luma) (omega arith)) ∙ intra_found p.luma p.chroma (16 * p.chroma + p.luma) l c refl
@@ -76,8 +76,8 @@ none_there f (Some n) h e = let bad : Some (f n) ≡ None = e in absurd cc
 
 none_at : (intra : Bool) (place : ℕ) → place ≤ 47 → pattern_at intra place ≡ None → ⊥
 unfolding is_found
-none_at true place h e = none_there _ (slice_get INTRA_PATTERNS place) (all_below-at (λ k. is_found (slice_get INTRA_PATTERNS k)) 48 place refl (omega arith)) e
-none_at false place h e = none_there _ (slice_get INTER_PATTERNS place) (all_below-at (λ k. is_found (slice_get INTER_PATTERNS k)) 48 place refl (omega arith)) e
+none_at true place h e = none_there _ (slice_get (pattern_list true) place) (all_below-at (λ k. is_found (slice_get (pattern_list true) k)) 48 place refl (omega arith)) e
+none_at false place h e = none_there _ (slice_get (pattern_list false) place) (all_below-at (λ k. is_found (slice_get (pattern_list false) k)) 48 place refl (omega arith)) e
 
 pub pattern_is_read : (intra : Bool) (place : ℕ) (r : Option Pattern) (left rest : List Bool) → place ≤ 47 → left ≡ ue place ++ rest → r ≡ pattern_at intra place → Reads IsPattern (pattern_text intra) left r rest
 pattern_is_read intra place None left rest h e found = absurd (none_at intra place h (sym found))

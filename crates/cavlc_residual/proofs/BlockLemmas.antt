@@ -7,9 +7,8 @@ use Rattle.std.proofs.lemmas.Bool.{cases_Bool, false≢true, ltb-true, ltb-false
 use Rattle.bit_texts.specs.Texts.{Reads, IsPrefixFree, BothAre, both_texts}
 use Rattle.bit_texts.proofs.Reading.{Reads-then, Reads-stop, Reads-map, IsPrefixFree-then, IsPrefixFree-map}
 use Rattle.code_tables.specs.Codes.{Code, code_at, IsEntry, word_at}
-use Rattle.code_tables.specs.CoeffToken.{coeff_token_list}
+use Rattle.code_tables.specs.CoeffToken.{coeff_token_0, coeff_token_2, coeff_token_4, coeff_token_8, coeff_token_dc, coeff_token_list}
 use Rattle.code_tables.specs.TotalZeros.{total_zeros_list}
-use Rattle.code_tables.specs.declared.tokens.TheConstants.{COEFF_TOKEN_0, COEFF_TOKEN_2, COEFF_TOKEN_4, COEFF_TOKEN_8, COEFF_TOKEN_DC}
 use Rattle.cavlc_residual.specs.Level.{level_word}
 use Rattle.cavlc_residual.specs.Coefficients.{magnitude, code_of, next_suffix_length, AreCoefficients}
 use Rattle.cavlc_residual.specs.Block.{IsShape, is_nonzero, total_coeff, is_one, leading_zeros, runs_of, ones_within, trailing_ones, first_suffix_length, first_extra, levels_text, runs_text, parts_text, block_text, is_above, levels_above, is_beyond, IsBlock}
@@ -55,13 +54,13 @@ TokensStand-cond false xs ys n p q = q
 tokens_of-pos : (n : ℕ) → TokensStand (coeff_token_list (pos n)) 17
 unfolding coeff_token_list tokens_stand agree
 tokens_of-pos n =
-    TokensStand-cond (nat_lt n 2) COEFF_TOKEN_0 _ 17 (tokens_stand-all COEFF_TOKEN_0 17 refl)
-    (TokensStand-cond (nat_lt n 4) COEFF_TOKEN_2 _ 17 (tokens_stand-all COEFF_TOKEN_2 17 refl)
-    (TokensStand-cond (nat_lt n 8) COEFF_TOKEN_4 COEFF_TOKEN_8 17 (tokens_stand-all COEFF_TOKEN_4 17 refl) (tokens_stand-all COEFF_TOKEN_8 17 refl)))
+    TokensStand-cond (nat_lt n 2) coeff_token_0 _ 17 (tokens_stand-all coeff_token_0 17 refl)
+    (TokensStand-cond (nat_lt n 4) coeff_token_2 _ 17 (tokens_stand-all coeff_token_2 17 refl)
+    (TokensStand-cond (nat_lt n 8) coeff_token_4 coeff_token_8 17 (tokens_stand-all coeff_token_4 17 refl) (tokens_stand-all coeff_token_8 17 refl)))
 
 tokens_of-negsuc : (n : ℕ) → TokensStand (coeff_token_list (negsuc n)) 5
 unfolding coeff_token_list tokens_stand agree
-tokens_of-negsuc n = tokens_stand-all COEFF_TOKEN_DC 5 refl
+tokens_of-negsuc n = tokens_stand-all coeff_token_dc 5 refl
 
 pub token_entry : (nc : ℤ) (max t o : ℕ) → IsShape nc max → t ≤ max → o < 4 → (IsEntry (coeff_token_list nc) (4 * t + o) → o ≤ t) × (o ≤ t → IsEntry (coeff_token_list nc) (4 * t + o))
 token_entry (negsuc n) max t o shape h k = tokens_of-negsuc n t o (omega arith) k

@@ -4,9 +4,9 @@ use Rattle.std.specs.Prelude.{slice_get, option_map}
 use Rattle.std.specs.List.{list_all}
 use Rattle.std.proofs.lemmas.Bool.{false≢true, and_parts, eqb-true, ltb-true}
 use Rattle.std.proofs.lemmas.Nat.{shr_high, mod_low, div_below, mod_below}
-use Rattle.code_tables.specs.CodedBlockPattern.{pattern_at}
+use Rattle.code_tables.specs.CodedBlockPattern.{pattern_at, pattern_list}
 use Rattle.h264_types.specs.declared.macroblock.Pattern.{Pattern}
-use Rattle.code_tables.specs.declared.patterns.TheConstants.{INTRA_PATTERNS, INTER_PATTERNS, INTRA_CODES, INTER_CODES}
+use Rattle.code_tables.specs.declared.patterns.TheConstants.{INTRA_CODES, INTER_CODES}
 use Rattle.code_tables.proofs.CodeTables.{all_below, all_below-at}
 
 abbrev is_some : Option ℕ → ℕ → Bool
@@ -38,10 +38,10 @@ found numbers codes l c n h luma chroma e =
     ap (option_map pattern) at ∙ ap Some (pattern_is l c n (omega arith) e)
 
 pub intra_found : (l c n : ℕ) → l ≤ 15 → c ≤ 2 → n ≡ 16 * c + l → pattern_at true (get_or INTRA_CODES n 0) ≡ Some (record { luma = l; chroma = c })
-intra_found l c n luma chroma e = found INTRA_PATTERNS INTRA_CODES l c n refl luma chroma e
+intra_found l c n luma chroma e = found (pattern_list true) INTRA_CODES l c n refl luma chroma e
 
 pub inter_found : (l c n : ℕ) → l ≤ 15 → c ≤ 2 → n ≡ 16 * c + l → pattern_at false (get_or INTER_CODES n 0) ≡ Some (record { luma = l; chroma = c })
-inter_found l c n luma chroma e = found INTER_PATTERNS INTER_CODES l c n refl luma chroma e
+inter_found l c n luma chroma e = found (pattern_list false) INTER_CODES l c n refl luma chroma e
 
 list_all-get : (p : ℕ → Bool) (xs : List ℕ) (i x : ℕ) → list_all p xs ≡ true → slice_get xs i ≡ Some x → p x ≡ true
 list_all-get p [] i x all e = absurd (let bad : Some x ≡ None = sym e in cc)
@@ -60,8 +60,8 @@ small numbers place q all e = by (slice_get numbers place) (list_all-get (λ n. 
         subst P same (omega (arith, mod_below n 16 (omega arith)), omega (arith, div_below n 16 3 (omega arith) below))
 
 pub pattern_small : (intra : Bool) (place : ℕ) (q : Pattern) → pattern_at intra place ≡ Some q → (q.luma ≤ 15) × (q.chroma ≤ 2)
-pattern_small true place q e = small INTRA_PATTERNS place q refl e
-pattern_small false place q e = small INTER_PATTERNS place q refl e
+pattern_small true place q e = small (pattern_list true) place q refl e
+pattern_small false place q e = small (pattern_list false) place q refl e
 
 -- ## One code
 
@@ -96,5 +96,5 @@ code_is numbers codes place p fits size e = by (slice_get numbers place) refl e
         sym test ∙ ap (λ k. get_or codes k 0) (there.1 ∙ number_of n p same)
 
 pub one_code : (intra : Bool) (first second : ℕ) (p : Pattern) → pattern_at intra first ≡ Some p → pattern_at intra second ≡ Some p → first ≡ second
-one_code true first second p h k = code_is INTRA_PATTERNS INTRA_CODES first p refl refl h ∙ sym (code_is INTRA_PATTERNS INTRA_CODES second p refl refl k)
-one_code false first second p h k = code_is INTER_PATTERNS INTER_CODES first p refl refl h ∙ sym (code_is INTER_PATTERNS INTER_CODES second p refl refl k)
+one_code true first second p h k = code_is (pattern_list true) INTRA_CODES first p refl refl h ∙ sym (code_is (pattern_list true) INTRA_CODES second p refl refl k)
+one_code false first second p h k = code_is (pattern_list false) INTER_CODES first p refl refl h ∙ sym (code_is (pattern_list false) INTER_CODES second p refl refl k)

@@ -4,10 +4,9 @@ ghost use Rattle.std.specs.Prelude.{◌≡◌, ◌<◌, ℕ, ℤ, Bool, Some};
 ghost use Rattle.code_tables.specs.CodedBlockPattern.{pattern_at};
 ghost use Rattle.h264_types.specs.declared.macroblock.Pattern.{Pattern};
 ghost use Rattle.code_tables.specs.Codes.{IsCodeTable, weight};
-ghost use Rattle.code_tables.specs.CoeffToken.{coeff_token_list};
+ghost use Rattle.code_tables.specs.CoeffToken.{coeff_token_0, coeff_token_2, coeff_token_4, coeff_token_8, coeff_token_dc, coeff_token_list};
 ghost use Rattle.code_tables.specs.RunBefore.{run_before_list};
 ghost use Rattle.code_tables.specs.TotalZeros.{total_zeros_list};
-ghost use Rattle.code_tables.specs.declared.tokens.TheConstants.{COEFF_TOKEN_0, COEFF_TOKEN_2, COEFF_TOKEN_4, COEFF_TOKEN_8, COEFF_TOKEN_DC};
 
 /// No code word of coeff_token begins another one of its column.
 pub fn no_coeff_token_begins_another()
@@ -26,11 +25,11 @@ pub fn no_run_before_begins_another()
 
 /// How many of the 2^16 texts of 16 bits begin with a code word of coeff_token.
 pub fn coeff_token_weights()
-    ensures low { weight COEFF_TOKEN_0 ≡ 65534 }
-    ensures middle { weight COEFF_TOKEN_2 ≡ 65528 }
-    ensures high { weight COEFF_TOKEN_4 ≡ 65472 }
-    ensures fixed { weight COEFF_TOKEN_8 ≡ 63488 }
-    ensures chroma_dc { weight COEFF_TOKEN_DC ≡ 65536 }
+    ensures low { weight coeff_token_0 ≡ 65534 }
+    ensures middle { weight coeff_token_2 ≡ 65528 }
+    ensures high { weight coeff_token_4 ≡ 65472 }
+    ensures fixed { weight coeff_token_8 ≡ 63488 }
+    ensures chroma_dc { weight coeff_token_dc ≡ 65536 }
 {}
 
 /// Each coded block pattern has one codeNum (Table 9-4).

@@ -1,6 +1,6 @@
 //! The code tables of CAVLC (ITU-T H.264, 9.2): coeff_token, total_zeros and run_before, the mapping of coded_block_pattern
-//! (9.1.2), and the maps of 8x8 blocks in CABAC (9.3.3.1.3). Each printed table stands here once, and the definitions in
-//! specs/ read these lists: they are to be compared with the standard's.
+//! (9.1.2), and the maps of 8x8 blocks in CABAC (9.3.3.1.3). The tables are printed in specs/, to be compared with the
+//! standard's, and the lists of the code are proved to be those.
 //! A `CodeTable` finds the code word that the next bits begin with, at once. Nothing here takes memory.
 #![tactic(auto)]
 

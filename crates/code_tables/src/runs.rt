@@ -30,7 +30,7 @@ pub fn run_before(zeros_left: u8, run: u8) -> Option<Code>
 }
 
 /// run_before, a row for each zerosLeft from 1; the last one for all above 6.
-pub static RUN_BEFORE: [[Code; 15]; 7] = [
+static RUN_BEFORE: [[Code; 15]; 7] = [
     [
         (1, 1),
         (1, 0),

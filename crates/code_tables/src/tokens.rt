@@ -34,7 +34,7 @@ pub fn coeff_token(nc: i8, total: u8, ones: u8) -> Option<Code>
 }
 
 /// coeff_token for nC 0 and 1.
-pub static COEFF_TOKEN_0: [Code; 68] = [
+static COEFF_TOKEN_0: [Code; 68] = [
     (1, 1),
     (0, 0),
     (0, 0),
@@ -106,7 +106,7 @@ pub static COEFF_TOKEN_0: [Code; 68] = [
 ];
 
 /// coeff_token for nC 2 and 3.
-pub static COEFF_TOKEN_2: [Code; 68] = [
+static COEFF_TOKEN_2: [Code; 68] = [
     (2, 3),
     (0, 0),
     (0, 0),
@@ -178,7 +178,7 @@ pub static COEFF_TOKEN_2: [Code; 68] = [
 ];
 
 /// coeff_token for nC 4 to 7.
-pub static COEFF_TOKEN_4: [Code; 68] = [
+static COEFF_TOKEN_4: [Code; 68] = [
     (4, 15),
     (0, 0),
     (0, 0),
@@ -250,7 +250,7 @@ pub static COEFF_TOKEN_4: [Code; 68] = [
 ];
 
 /// coeff_token for nC of 8 and above.
-pub static COEFF_TOKEN_8: [Code; 68] = [
+static COEFF_TOKEN_8: [Code; 68] = [
     (6, 3),
     (0, 0),
     (0, 0),
@@ -322,7 +322,7 @@ pub static COEFF_TOKEN_8: [Code; 68] = [
 ];
 
 /// coeff_token for chroma DC, where nC is -1.
-pub static COEFF_TOKEN_DC: [Code; 20] = [
+static COEFF_TOKEN_DC: [Code; 20] = [
     (2, 1),
     (0, 0),
     (0, 0),

@@ -40,7 +40,7 @@ pub fn total_zeros(max: u8, total: u8, zeros: u8) -> Option<Code>
 }
 
 /// total_zeros of a block of 15 or 16 levels, a row for each TotalCoeff from 1.
-pub static TOTAL_ZEROS: [[Code; 16]; 15] = [
+static TOTAL_ZEROS: [[Code; 16]; 15] = [
     [
         (1, 1),
         (3, 3),
@@ -314,7 +314,7 @@ pub static TOTAL_ZEROS: [[Code; 16]; 15] = [
 ];
 
 /// total_zeros of a chroma DC block, a row for each TotalCoeff from 1.
-pub static TOTAL_ZEROS_DC: [[Code; 4]; 3] = [
+static TOTAL_ZEROS_DC: [[Code; 4]; 3] = [
     [(1, 1), (2, 1), (3, 1), (3, 0)],
     [(1, 1), (2, 1), (2, 0), (0, 0)],
     [(1, 1), (1, 0), (0, 0), (0, 0)],
