@@ -9,8 +9,7 @@ use Rattle.cabac_residual.specs.Contexts.{flag_context, significance_context, la
 use Rattle.binarisation.specs.BinString.{BinString, Value, Next, Reads, Writes, ◌>>=◌}
 use Rattle.binarisation.proofs.Strings.{reads_then, reads_none, writes_then}
 use Rattle.cabac_residual.specs.declared.level.Counts.{Counts}
-use Rattle.cabac_residual.specs.Block.{is_nonzero, level, level_at, after, levels_before, mark, marks_from, marks_of, coded, block}
-use Rattle.cabac_residual.specs.declared.block.TheConstants.{NO_LEVELS}
+use Rattle.cabac_residual.specs.Block.{is_nonzero, level, level_at, after, no_levels, levels_before, mark, marks_from, marks_of, coded, block}
 
 -- ---- one place
 
@@ -156,10 +155,10 @@ length-marks_of (suc count) levels = ap suc (length-marks_of count levels)
 -- ---- the whole block
 
 pub behind_marks : ℕ → ℕ → List Bool → BinString (List ℤ)
-behind_marks cat max marks = levels_before cat NO_LEVELS (replicate (max - length marks) (pos 0)) marks
+behind_marks cat max marks = levels_before cat no_levels (replicate (max - length marks) (pos 0)) marks
 
 pub reads_coded : {S : Type 0} (step : S → Slot → Option Bool → S → Type 0) (cat : ℕ) (field : Bool) (max : ℕ) (marks : List Bool) (zeros : List ℤ) (result : Option (List ℤ)) (s m t : S)
-    → zeros ≡ replicate max (pos 0) → Reads step (marks_from cat field [] 0 (max - 1)) (Some (reverse marks)) s m → Reads step (levels_before cat NO_LEVELS (drop (length marks) zeros) (reverse marks)) result m t → Reads step (coded cat field max) result s t
+    → zeros ≡ replicate max (pos 0) → Reads step (marks_from cat field [] 0 (max - 1)) (Some (reverse marks)) s m → Reads step (levels_before cat no_levels (drop (length marks) zeros) (reverse marks)) result m t → Reads step (coded cat field max) result s t
 unfolding coded behind_marks
 reads_coded step cat field max marks zeros result s m t e first others =
     reads_then step (marks_from cat field [] 0 (max - 1)) (behind_marks cat max) (reverse marks) result s m t first (rw (e, drop-replicate (length marks) max (pos 0), ← length-reverse marks) at others)
@@ -169,7 +168,7 @@ unfolding coded behind_marks
 reads_no_marks step cat field max s t first = reads_none step (marks_from cat field [] 0 (max - 1)) (behind_marks cat max) s t first
 
 pub writes_coded : {S : Type 0} (step : S → Slot → Bool → S → Type 0) (cat : ℕ) (field : Bool) (levels : List ℤ) (count : ℕ) (s m t : S)
-    → drop count levels ≡ replicate (length levels - count) (pos 0) → Writes step (marks_from cat field [] 0 (length levels - 1)) (marks_of count levels) s m → Writes step (levels_before cat NO_LEVELS (drop count levels) (marks_of count levels)) levels m t
+    → drop count levels ≡ replicate (length levels - count) (pos 0) → Writes step (marks_from cat field [] 0 (length levels - 1)) (marks_of count levels) s m → Writes step (levels_before cat no_levels (drop count levels) (marks_of count levels)) levels m t
     → Writes step (coded cat field (length levels)) levels s t
 unfolding coded behind_marks
 writes_coded step cat field levels count s m t e first others =

@@ -9,8 +9,7 @@ use Rattle.binarisation.specs.Codes.{ueg, signed}
 use Rattle.binarisation.proofs.OneString.{splits, then_one, value_one, next_one, ueg_one, signed_one, signed-back}
 use Rattle.cabac_residual.specs.Contexts.{flag_context, significance_context, last_context, level_contexts}
 use Rattle.cabac_residual.specs.declared.level.Counts.{Counts}
-use Rattle.cabac_residual.specs.declared.block.TheConstants.{NO_LEVELS}
-use Rattle.cabac_residual.specs.Block.{is_nonzero, level, level_at, after, levels_before, mark, marks_from, coded, block}
+use Rattle.cabac_residual.specs.Block.{is_nonzero, level, level_at, after, no_levels, levels_before, mark, marks_from, coded, block}
 
 -- ---- levels
 
@@ -142,26 +141,26 @@ marks_one cat field before place (suc more) =
 
 -- the marks, from the levels
 coded-marks : (cat : ℕ) (field : Bool) (max : ℕ) (first second : List (Slot × Bool)) (marks : List Bool) (value : List ℤ) → Spells (marks_from cat field [] 0 (max - 1)) first marks
-    → Spells (levels_before cat NO_LEVELS (replicate (max - length marks) (pos 0)) marks) second value → (others : List Bool) × (marks ≡ true ∷ others) × (from_last (marks_onto value []) ≡ marks)
+    → Spells (levels_before cat no_levels (replicate (max - length marks) (pos 0)) marks) second value → (others : List Bool) × (marks ≡ true ∷ others) × (from_last (marks_onto value []) ≡ marks)
 unfolding from_last
 coded-marks cat field max first second marks value h g =
     let kept = marks-kept cat field [] 0 (max - 1) first marks h in
-    let on = levels-marks cat NO_LEVELS (replicate (max - length marks) (pos 0)) marks second value g in
+    let on = levels-marks cat no_levels (replicate (max - length marks) (pos 0)) marks second value g in
     let last : from_last marks ≡ marks = ap from_last kept.1 ∙ sym kept.1 in
     (kept.0 ++ [], kept.1, ap from_last on ∙ from_last-zeros (max - length marks) marks ∙ last)
 
 coded_one : (cat : ℕ) (field : Bool) (max : ℕ) → HasOneString (coded cat field max)
 unfolding coded
 coded_one cat field max =
-    then_one (marks_from cat field [] 0 (max - 1)) (λ (marks : List Bool). levels_before cat NO_LEVELS (replicate (max - length marks) (pos 0)) marks) (λ value. from_last (marks_onto value []))
-    (marks_one cat field [] 0 (max - 1)) (λ marks. levels_one cat NO_LEVELS (replicate (max - length marks) (pos 0)) marks)
+    then_one (marks_from cat field [] 0 (max - 1)) (λ (marks : List Bool). levels_before cat no_levels (replicate (max - length marks) (pos 0)) marks) (λ value. from_last (marks_onto value []))
+    (marks_one cat field [] 0 (max - 1)) (λ marks. levels_one cat no_levels (replicate (max - length marks) (pos 0)) marks)
     (λ first second marks value h g. (coded-marks cat field max first second marks value h g).2)
 
 -- a level is other than 0
 coded-some : (cat : ℕ) (field : Bool) (max count : ℕ) (bins : List (Slot × Bool)) (value : List ℤ) → Spells (coded cat field max) bins value → replicate count (pos 0) ≡ value → ⊥
 unfolding coded from_last
 coded-some cat field max count bins value h e =
-    let parts = splits (marks_from cat field [] 0 (max - 1)) (λ (marks : List Bool). levels_before cat NO_LEVELS (replicate (max - length marks) (pos 0)) marks) bins value h in
+    let parts = splits (marks_from cat field [] 0 (max - 1)) (λ (marks : List Bool). levels_before cat no_levels (replicate (max - length marks) (pos 0)) marks) bins value h in
     let marks = coded-marks cat field max parts.1 parts.2 parts.0 value parts.4 parts.5 in
     let none : from_last (marks_onto (replicate count (pos 0)) []) ≡ [] = from_last-zeros count [] in
     let zeros : from_last (marks_onto value []) ≡ [] = ap (λ (l : List ℤ). from_last (marks_onto l [])) (sym e) ∙ none in

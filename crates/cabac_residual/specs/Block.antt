@@ -5,7 +5,6 @@ use Rattle.cabac_engine.specs.Bins.{in_context}
 use Rattle.binarisation.specs.BinString.{BinString, Value, Next, ◌>>=◌}
 use Rattle.binarisation.specs.Codes.{flag, ueg, signed}
 use Rattle.cabac_residual.specs.declared.level.Counts.{Counts}
-use Rattle.cabac_residual.specs.declared.block.TheConstants.{NO_LEVELS}
 use Rattle.cabac_residual.specs.Contexts.{flag_context, significance_context, last_context, level_contexts}
 
 abbrev pub is_nonzero : ℤ → Bool
@@ -19,7 +18,10 @@ level cat counts = ueg (level_contexts cat counts) 14 0 16 >>= (λ less. signed 
 unfoldable pub level_at : ℕ → Counts → Bool → BinString ℤ
 level_at cat counts significant = if significant then level cat counts else Value (pos 0)
 
--- the counts after a level
+-- the counts before the last level, and after a level
+abbrev pub no_levels : Counts
+no_levels = record { ones = 0; above = 0 }
+
 abbrev pub after : Counts → ℤ → Counts
 after counts level =
     if unsigned_abs level == 0 then counts else
@@ -50,7 +52,7 @@ marks_from cat field before place (suc more) =
 unfoldable pub coded : ℕ → Bool → ℕ → BinString (List ℤ)
 coded cat field max =
     marks_from cat field [] 0 (max - 1) >>= (λ marks.
-    levels_before cat NO_LEVELS (replicate (max - length marks) (pos 0)) marks)
+    levels_before cat no_levels (replicate (max - length marks) (pos 0)) marks)
 
 -- A block of max levels, in scan order. Category 5 has no coded_block_flag.
 unfoldable pub block : ℕ → Bool → ℕ → ℕ → BinString (List ℤ)

@@ -1,7 +1,7 @@
 ghost use Rattle.std.specs.Prelude.{◌≡◌, ◌<◌, ◌≤◌, ◌-◌, ◌+◌, length, drop, reverse, replicate, pos, slice_index_or, IfSome, IfNone, option_map, unsigned_abs, false, true, OnOk, OnSome, OnErr};
 ghost use Rattle.std.specs.List.{AllByRecursion};
 ghost use Rattle.binarisation.specs.BinString.{Reads, Writes};
-ghost use Rattle.cabac_residual.specs.Block.{is_nonzero, levels_before, coded, block, marks_of, AreLevels};
+ghost use Rattle.cabac_residual.specs.Block.{is_nonzero, no_levels, levels_before, coded, block, marks_of, AreLevels};
 ghost use Rattle.cabac_residual.specs.Contexts.{IsShape};
 
 use crate::contexts::flag_context;
@@ -26,7 +26,7 @@ fn read_marked<S: BinSource>(s: &mut S, cat: u8, marks: &[bool], levels: &mut [i
     requires cat { cat < 6 }
     requires few { length marks.now ≤ length levels.old }
     requires most { length levels.old ≤ 64 }
-    ensures reads { Reads S.step (levels_before cat NO_LEVELS (drop (length marks.now) levels.old) (reverse marks.now)) (option_map (λ _. levels.new) result) s.old s.new }
+    ensures reads { Reads S.step (levels_before cat no_levels (drop (length marks.now) levels.old) (reverse marks.now)) (option_map (λ _. levels.new) result) s.old s.new }
     ensures going { OnSome result (S.over s.new ≡ false) }
 {
     let mut counts = NO_LEVELS;
@@ -135,7 +135,7 @@ fn write_marked<S: BinSink>(s: &mut S, cat: u8, levels: &[i32], count: usize) ->
     requires count { count ≤ length levels.now }
     requires most { length levels.now ≤ 64 }
     requires small { AreLevels levels.now }
-    ensures writes { OnOk result (Writes S.step (levels_before cat NO_LEVELS (drop count levels.now) (marks_of count levels.now)) levels.now s.old s.new) }
+    ensures writes { OnOk result (Writes S.step (levels_before cat no_levels (drop count levels.now) (marks_of count levels.now)) levels.now s.old s.new) }
     ensures going { OnOk result (S.over s.new ≡ false) }
     ensures err { OnErr result (S.over s.new ≡ true) }
 {

@@ -1,10 +1,10 @@
 ghost use Rattle.std.specs.Prelude.{◌≡◌, ◌⊎◌, ◌+◌, ◌<◌, ◌≤◌, slice_index_or};
-ghost use Rattle.cabac_residual.specs.Contexts.{flag_context, place_of, significance_context, last_context};
+ghost use Rattle.cabac_residual.specs.Contexts.{flag_context, map_offsets, place_of, significance_context, last_context};
 
 use code_tables::{last_map, sig_map};
 
 /// The offsets of ctxBlockCat 0 to 4 for the flags of the significance map (Table 9-40).
-pub static MAP_OFFSETS: [u16; 5] = [0, 15, 29, 44, 47];
+static MAP_OFFSETS: [u16; 5] = [0, 15, 29, 44, 47];
 
 /// The first context of coeff_abs_level_minus1 of ctxBlockCat 0 to 5 (Tables 9-34 and 9-40).
 pub static LEVEL_BASES: [u16; 6] = [227, 237, 247, 257, 266, 426];
@@ -24,7 +24,7 @@ fn map_context(base: u16, cat: u8, place: u8) -> u16
     requires base { base ≤ 338 }
     requires cat { cat < 5 }
     requires place { place < 15 }
-    ensures context { result ≡ base + slice_index_or MAP_OFFSETS cat 0 + place_of cat place }
+    ensures context { result ≡ base + slice_index_or map_offsets cat 0 + place_of cat place }
     ensures small { result < 460 }
 {
     let place = if cat == 3 { place.min(2) } else { place };

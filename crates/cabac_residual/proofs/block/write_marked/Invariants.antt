@@ -1,7 +1,6 @@
 use Rattle.std.proofs.Common.{◌≡◌, ◌+◌, ◌≤◌, drop, false}
 use Rattle.binarisation.proofs.Strings.{Completes}
-use Rattle.cabac_residual.specs.Block.{levels_before, marks_of}
-use Rattle.cabac_residual.specs.declared.block.TheConstants.{NO_LEVELS}
+use Rattle.cabac_residual.specs.Block.{no_levels, levels_before, marks_of}
 use Rattle.cabac_residual.proofs.block.write_marked.Given as goal
 
 abbrev pub invariant-loop-at : goal.invariant-loop-at
@@ -9,7 +8,7 @@ invariant-loop-at g l = record {
   going : g.S.BinSink.over l.s ≡ false;
   place : l.at ≤ l.count;
   few : l.counts.ones + l.counts.above + l.at ≤ 64;
-  writes : Completes g.S.BinSink.step (levels_before l.cat NO_LEVELS (drop l.count l.levels) (marks_of l.count l.levels)) l.fn.s (levels_before l.cat l.counts (drop l.at l.levels) (marks_of l.at l.levels)) l.s;
+  writes : Completes g.S.BinSink.step (levels_before l.cat no_levels (drop l.count l.levels) (marks_of l.count l.levels)) l.fn.s (levels_before l.cat l.counts (drop l.at l.levels) (marks_of l.at l.levels)) l.s;
 }
 
 abbrev pub decreases-loop-at : goal.decreases-loop-at
