@@ -1,6 +1,6 @@
 -- The laws of the texts of headers, and of shapes.
 use Rattle.std.proofs.Common.{◌≡◌, ℕ, ℤ, pos, negsuc, ◌+◌, ◌*◌, ◌/◌, ◌%◌, ◌<◌, ◌≤◌, Bool, true, false, cond, leb, ltb, eqb, List, ◌++◌, unsigned_abs, refl, sym, ◌∙◌, inl, inr, arith}
-use Rattle.std.specs.Prelude.{◌||◌, ◌&&◌, not, ◌⊎◌}
+use Rattle.std.specs.Prelude.{◌||◌, ◌&&◌, not, ◌⊎◌, IsTrue}
 use Rattle.std.proofs.Math.Nat.{mul-le-mul_left}
 use Rattle.std.proofs.lemmas.Bool.{eqb-true}
 use Rattle.std.proofs.lemmas.Bool.Decides.{nat_tests}
@@ -11,7 +11,9 @@ use Rattle.exp_golomb.specs.Syntax.{Found}
 use Rattle.exp_golomb.proofs.Fronts.{both, in_ue}
 use Rattle.exp_golomb.proofs.Syntaxes.{one_outcome}
 use Rattle.h264_types.specs.declared.layer.Layer.{Layer}
-use Rattle.h264_types.specs.SliceShape.{IsSliceShape}
+use Rattle.h264_types.specs.SliceShape.{IsSliceShape, HasRefs, most_refs, predicts_from}
+use Rattle.h264_types.specs.declared.slice_shape.SliceKind.TheVariants.{I, P, B}
+use Rattle.h264_types.proofs.ShapeLaws.{few_refs}
 use Rattle.param_sets.proofs.Spelled.{same_found, ue_most}
 use Rattle.param_sets.specs.PpsCodes.{mode_flag_of}
 use Rattle.param_sets.specs.SequenceParameterSet.{width_of, height_of}
@@ -22,7 +24,7 @@ use Rattle.header_parts.specs.PartsOf.{references_of}
 use Rattle.header_parts.specs.QuantisationAndFilter.{is_qp, slice_qp_y}
 use Rattle.header_parts.specs.References.{active_l0, active_l1, most_active}
 use Rattle.header_parts.specs.Refusal.{Refusal}
-use Rattle.header_parts.specs.SliceTypes.{is_i}
+use Rattle.header_parts.specs.SliceTypes.{is_i, is_p, is_b, is_switching}
 use Rattle.header_parts.specs.When.{IsInWhen}
 use Rattle.header_parts.specs.declared.header.Header.{Header}
 use Rattle.slice_header.specs.Shape.{shape_of}
@@ -151,6 +153,42 @@ smaller : (b : Bool) (width height : ℕ) → width * height ≤ 139264 → widt
 smaller true width height h = let half : height / 2 ≤ height = omega arith in let m = mul-le-mul_left width half in omega (arith, h, m)
 smaller false width height h = h
 
+-- in_force is 1 and more: of list 0 where there is one, and of list 1 in the slices that are left
+some_l0 : (i p : Bool) (sent : ℕ) → IsTrue (predicts_from (cond i I (cond p P B)) 0) → 1 ≤ cond i 0 (sent + 1)
+some_l0 true p sent h = absurd cc
+some_l0 false p sent h = omega arith
+
+some_l1 : (i p b : Bool) (sent : ℕ) → (i ≡ false → p ≡ false → b ≡ true) → IsTrue (predicts_from (cond i I (cond p P B)) 1) → 1 ≤ cond b (sent + 1) 0
+some_l1 true p b sent is h = absurd cc
+some_l1 false true b sent is h = absurd cc
+some_l1 false false b sent is h = rw is refl refl (omega arith)
+
+is_b_else : (slice_type : ℕ) → is_switching slice_type ≡ false → is_i slice_type ≡ false → is_p slice_type ≡ false → is_b slice_type ≡ true
+is_b_else slice_type scope i p = grind (arith, nat_tests)
+
+-- ---- active references
+
+few_in : (field : Bool) (n : ℕ) → leb n (most_active field) ≡ true → n ≤ most_refs field
+few_in true n h = grind (arith, nat_tests)
+few_in false n h = grind (arith, nat_tests)
+
+refs_l0 : (active : Active) (h : Header) → HeaderFits active h → HasRefs (shape_of active h) 0
+refs_l0 active h fits =
+    let few = both (leb (active_l0 active.pps h.slice_type (references_of h)) (most_active h.field_pic_flag)) (leb (active_l1 active.pps h.slice_type (references_of h)) (most_active h.field_pic_flag)) fits.references.few in
+    record {
+      some = some_l0 (is_i h.slice_type) (is_p h.slice_type) (cond h.num_ref_idx_active_override_flag h.num_ref_idx_l0_active_minus1 active.pps.num_ref_idx_l0_default_active_minus1);
+      few = few_in h.field_pic_flag _ few.0;
+    }
+
+refs_l1 : (active : Active) (h : Header) → HeaderFits active h → HasRefs (shape_of active h) 1
+refs_l1 active h fits =
+    let few = both (leb (active_l0 active.pps h.slice_type (references_of h)) (most_active h.field_pic_flag)) (leb (active_l1 active.pps h.slice_type (references_of h)) (most_active h.field_pic_flag)) fits.references.few in
+    record {
+      some = some_l1 (is_i h.slice_type) (is_p h.slice_type) (is_b h.slice_type) (cond h.num_ref_idx_active_override_flag h.num_ref_idx_l1_active_minus1 active.pps.num_ref_idx_l1_default_active_minus1)
+          (is_b_else h.slice_type fits.in_scope);
+      few = few_in h.field_pic_flag _ few.1;
+    }
+
 pub shape_fits : (active : Active) (h : Header) → IsSps active.sps → HeaderFits active h → IsSliceShape (shape_of active h)
 shape_fits active h sps fits =
     let limits = neither (ltb 1055 (width_of active.sps)) (ltb 139264 (width_of active.sps * height_of active.sps)) sps.within_limits in
@@ -163,15 +201,9 @@ shape_fits active h sps fits =
           (not active.sps.qpprime_y_zero_transform_bypass_flag) refl refl sps.in_profile;
       qp = qp_most (slice_qp_y active.pps h.slice_qp_delta) fits.slice_qp;
       column = column_most (has_init active.pps h.slice_type) (is_i h.slice_type) h.cabac_init_idc fits.cabac_init_idc;
+      l0 = refs_l0 active h fits;
+      l1 = refs_l1 active h fits;
     }
 
--- ---- active references
-
-few_most : (field : Bool) (n : ℕ) → leb n (most_active field) ≡ true → n ≤ 32
-few_most true n h = grind (arith, nat_tests)
-few_most false n h = let most : n ≤ 16 = grind (arith, nat_tests) in omega (arith, most)
-
 pub references_fit : (active : Active) (h : Header) → HeaderFits active h → (active_l0 active.pps h.slice_type (references_of h) ≤ 32) × (active_l1 active.pps h.slice_type (references_of h) ≤ 32)
-references_fit active h fits =
-    let few = both (leb (active_l0 active.pps h.slice_type (references_of h)) (most_active h.field_pic_flag)) (leb (active_l1 active.pps h.slice_type (references_of h)) (most_active h.field_pic_flag)) fits.references.few in
-    (few_most h.field_pic_flag _ few.0, few_most h.field_pic_flag _ few.1)
+references_fit active h fits = (few_refs (shape_of active h) 0 (refs_l0 active h fits), few_refs (shape_of active h) 1 (refs_l1 active h fits))
