@@ -51,6 +51,7 @@ pub slice-normal : (shape : SliceShape) (mbs : List Mb) → IsSlice shape mbs �
 slice-normal shape mbs is kept =
     let same : length (map normal mbs) ≡ length mbs = length-map mbs normal in
     record {
+      is_shape = is.is_shape;
       some = rw same is.some;
       inside = rw same is.inside;
       macroblocks = All-map (IsMacroblock shape) normal mbs (λ k d below. valid-normal shape (get_or mbs k d) (is.macroblocks k d below) (kept k d below));

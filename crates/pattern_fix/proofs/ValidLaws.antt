@@ -11,9 +11,11 @@ use Rattle.h264_types.specs.declared.macroblock.MbKind.{MbKind}
 use Rattle.h264_types.specs.declared.macroblock.MbKind.TheVariants.{Skip, Intra, P, B}
 use Rattle.h264_types.specs.declared.macroblock.Pattern.{Pattern}
 use Rattle.h264_types.specs.declared.slice_shape.SliceShape.{SliceShape}
-use Rattle.h264_types.specs.Kind.{is_inter, is_i_nxn, is_i_16x16, is_i_pcm, is_skip, sends_pattern}
+use Rattle.h264_types.specs.Kind.{is_inter, is_i_nxn, is_i_16x16, is_i_pcm, is_skip}
 use Rattle.h264_types.specs.Macroblock.{no_elements, quarter_of, pattern_of}
-use Rattle.h264_types.specs.Valid.{takes_t8, IsTyped, IsIntraPredicted, IsInterPredicted, IsListSent, IsWithin, IsPattern, IsQpDelta, IsQuarterCoded, IsLumaCoded, IsChromaCoded, IsCoded, IsMacroblock}
+use Rattle.h264_types.specs.Sent.{takes_t8, mode_count, sends_pattern}
+use Rattle.h264_types.specs.Sizes.{HasSizes}
+use Rattle.h264_types.specs.Valid.{IsTyped, IsIntraPredicted, IsInterPredicted, IsListSent, IsWithin, IsPattern, IsQpDelta, IsQuarterCoded, IsLumaCoded, IsChromaCoded, IsCoded, IsMacroblock}
 use Rattle.pattern_fix.specs.NormalPattern.{all_zero, is_empty, normal_luma, normal, IsEmptied}
 use Rattle.pattern_fix.proofs.NormalLaws.{bit_at-normal_luma}
 
@@ -22,7 +24,7 @@ use Rattle.pattern_fix.proofs.NormalLaws.{bit_at-normal_luma}
 -- the flag is sent where it still stands: t8, t8_mode, inter, I_NxN, allowed, luma 0 before and after
 flag_sent :
     (t m i n x z z' : Bool) → (i ≡ false → x ≡ false)
-    → (IsTrue t → IsTrue (m && (n || (not z && x)))) → IsTrue (t && not (i && z')) → IsTrue (m && (n || (not z' && x)))
+    → (IsTrue t → IsTrue (m && n || m && (not z && x))) → IsTrue (t && not (i && z')) → IsTrue (m && n || m && (not z' && x))
 flag_sent false m i n x z z' intra sent h = absurd (cc)
 flag_sent true false i n x z z' intra sent h = absurd (let e : false ≡ true = sent refl in cc)
 flag_sent true true i true x z z' intra sent h = refl
@@ -52,11 +54,11 @@ typed shape mb is = record {
 -- ---- prediction
 
 -- I_NxN macroblocks keep their flag
-same_modes : (n t i z w : Bool) → (i ≡ true → n ≡ false) → (n && (not (t && not (i && z)) || w)) ≡ (n && (not t || w))
-same_modes false t i z w inter = refl
-same_modes true t true z w inter = absurd (let e : true ≡ false = inter refl in cc)
-same_modes true true false z w inter = refl
-same_modes true false false z w inter = refl
+same_modes : (n t i z : Bool) (k : ℕ) → (i ≡ true → n ≡ false) → (n && nat_lt k (mode_count (t && not (i && z)))) ≡ (n && nat_lt k (mode_count t))
+same_modes false t i z k inter = refl
+same_modes true t true z k inter = absurd (let e : true ≡ false = inter refl in cc)
+same_modes true true false z k inter = refl
+same_modes true false false z k inter = refl
 
 inter_is_no_nxn : (kind : MbKind) → is_inter kind ≡ true → is_i_nxn kind ≡ false
 inter_is_no_nxn Skip h = refl
@@ -68,7 +70,7 @@ intra : (mb : Mb) → IsIntraPredicted mb → IsIntraPredicted (normal mb)
 intra mb is = record {
   modes = λ k below.
       subst (λ b. get_or mb.modes k 0 ≤ (if b then 8 else 0))
-      (sym (same_modes (is_i_nxn mb.kind) mb.t8 (is_inter mb.kind) (normal_luma mb == 0) (nat_lt k 4) (inter_is_no_nxn mb.kind)))
+      (sym (same_modes (is_i_nxn mb.kind) mb.t8 (is_inter mb.kind) (normal_luma mb == 0) k (inter_is_no_nxn mb.kind)))
       (is.modes k below);
   chroma_mode = is.chroma_mode;
 }
@@ -215,8 +217,22 @@ coded mb is kept = record {
   pcm = is.pcm;
 }
 
+sizes : (mb : Mb) → HasSizes mb → HasSizes (normal mb)
+sizes mb is = record {
+  modes = is.modes;
+  subs = is.subs;
+  refs = is.refs;
+  mvd = is.mvd;
+  dc = is.dc;
+  luma = is.luma;
+  chroma_dc = is.chroma_dc;
+  chroma_ac = is.chroma_ac;
+  pcm = is.pcm;
+}
+
 pub valid-normal : (shape : SliceShape) (mb : Mb) → IsMacroblock shape mb → (IsEmptied mb → ⊥) → IsMacroblock shape (normal mb)
 valid-normal shape mb is kept = record {
+  sizes = sizes mb is.sizes;
   typed = typed shape mb is.typed;
   intra = intra mb is.intra;
   inter = inter shape mb is.inter;
