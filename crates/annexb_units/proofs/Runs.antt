@@ -1,6 +1,7 @@
 -- Many bytes, one after another: what a splitter stands for then.
-use Rattle.std.proofs.Common.{◌≡◌, ℕ, ◌+◌, ◌-◌, ◌^◌, min, List, [], ◌∷◌, ◌++◌, length, take, drop, Option, Some, None, refl, sym, ap, subst, ◌∙◌, arith, append-nil, append_assoc, length-append}
+use Rattle.std.proofs.Common.{◌≡◌, ◌≢◌, All, Result, Ok, Err, IfErr, ℕ, ◌+◌, ◌-◌, ◌^◌, min, List, [], ◌∷◌, ◌++◌, length, take, drop, Option, Some, None, refl, sym, ap, subst, ◌∙◌, arith, append-nil, append_assoc, length-append}
 use Rattle.std.proofs.lemmas.List.{take-append-le}
+use Rattle.std.proofs.lemmas.List.Elements.{All-replicate}
 use Rattle.std.proofs.Math.Seq.{take-add, take-append-add}
 use Rattle.h264_types.specs.declared.fault.Why.{Why}
 use Rattle.h264_types.specs.Units.{seen, followed_by}
@@ -15,8 +16,8 @@ use Rattle.std.proofs.Common.{map, IfSome, IfNone, MatchOption, Vec, Global}
 use Rattle.std.specs.VecDeque.{deque_len}
 use Rattle.std.specs.Option.{option_to_list}
 use Rattle.h264_types.specs.Units.{seen_whole}
-use Rattle.annexb_units.specs.Splitter.{Ends, EndShowsNone, EndShows, EndStops, Keeps, Takes, IsAllTaken}
-use Rattle.annexb_units.proofs.Steps.{IsGood, Step, feeds, shows_none, shows, seen-fed_open, seen-fed_bad, seen-units, one_taken}
+use Rattle.annexb_units.specs.Splitter.{Ends, EndShowsNone, EndStops, Keeps, Takes, IsAllTaken}
+use Rattle.annexb_units.proofs.Steps.{IsGood, seen-fed_open, seen-fed_bad, seen-units, one_taken}
 
 pub good-not_bad : (st : State) → ((why : Why) → st ≡ Bad why → ⊥) → IsGood st
 good-not_bad Between h = tt
@@ -97,22 +98,18 @@ feeds-front s t u at piece n h k =
 abbrev three : List ℕ
 three = 0 ∷ 0 ∷ 0 ∷ []
 
-pub ends : (s t : Splitter) → Step (parts s) (parts t) three → IsGood t.state → Ends s t × EndShowsNone s
+pub ends : (s t : Splitter) → Feeds s t three × ShowsNone s three → Ends s t × EndShowsNone s
 unfolding seen_whole
-ends s t h good = (feeds s t three h, shows_none s t three h good t.few_zeros)
+ends s t h = h
 
-pub end_stops : (s t : Splitter) (why : Why) (count : ℕ) (fault : SplitFault) → Step (parts s) (parts t) three → t.state ≡ Bad why → t.count ≡ count → fault ≡ BadFault count why → EndStops s t fault
-unfolding seen_whole
-end_stops s t why count fault h e n same =
-    let P : SplitFault → Type 0 = λ v. EndStops s t v in
-    let Q : ℕ → Type 0 = λ v. EndShows s v why in
-    subst P (sym same) (feeds s t three h, subst Q n (shows s t three why h e), (e, n))
+pub three_zeros : All (λ x. x ≡ 0) three
+three_zeros = All-replicate (λ x. x ≡ 0) 3 0 refl
 
-pub end_bad : (s : Splitter) (why : Why) → s.state ≡ Bad why → EndStops s s (BadFault s.count why)
+pub end_stops : (s t : Splitter) (r : Result (Unit {0}) SplitFault) → IfErr r (FeedStops s t three) → IfErr r (λ fault. fault ≢ Memory) → IfErr r (EndStops s t)
 unfolding seen_whole
-end_bad s why e =
-    let fed = feeds-bad s s why [] three three refl e (feeds-none s) in
-    (fed, shows-bad s s why s.count three e refl fed, (e, refl))
+end_stops s t (Ok x) h some = tt
+end_stops s t (Err (BadFault unit why)) h some = h
+end_stops s t (Err Memory) h some = absurd (some refl)
 
 -- ## One unit taken
 

@@ -285,11 +285,11 @@ by_unit_end p q x h two e full k =
     (k ∙ ap (λ v. parts_of (p.waiting ++ p.unit ∷ []) [] v Between m) two) e
     (unit_end p.waiting p.unit p.count m refl full)
 
-pub by_unit_next : (p q : Parts) (x : ℕ) → p.state ≡ Inside → p.zeros ≡ 2 → x ≡ 1 → 0 < length p.unit → q ≡ record (after_unit p) { zeros = 0 } → Step p q (x ∷ [])
+pub by_unit_next : (p q : Parts) (x : ℕ) → p.state ≡ Inside → p.zeros ≡ 2 → x ≡ 1 → 0 < length p.unit → q ≡ record (after_unit p) { zeros = 0; state = Inside } → Step p q (x ∷ [])
 by_unit_next p q x h two e full k =
     let m = min (p.count + 1) (2 ^ 64 - 1) in
     same_step p (parts_of p.waiting p.unit 2 Inside p.count) q (parts_of (p.waiting ++ p.unit ∷ []) [] 0 Inside m) x 1 (at_zeros p Inside 2 h two)
-    (k ∙ ap (λ v. parts_of (p.waiting ++ p.unit ∷ []) [] 0 v m) h) e
+    k e
     (unit_next p.waiting p.unit p.count m refl full)
 
 -- in a state that is no fault
@@ -298,62 +298,6 @@ good-between st h = let P : State → Type 0 = IsGood in subst P (sym h) tt
 
 pub good-inside : (st : State) → st ≡ Inside → IsGood st
 good-inside st h = let P : State → Type 0 = IsGood in subst P (sym h) tt
-
--- ## The end of the input
-
-abbrev three : List ℕ → List ℕ
-three more = 0 ∷ 0 ∷ 0 ∷ more
-
--- two zero bytes tell as much as more
-seen-two_zeros : (n : ℕ) (b : List ℕ) → 2 ≤ n → seen (replicate n 0 ++ b) ≡ seen (0 ∷ 0 ∷ b)
-seen-two_zeros zero b h = absurd (omega arith)
-seen-two_zeros (suc zero) b h = absurd (omega arith)
-seen-two_zeros (suc (suc zero)) b h = refl
-seen-two_zeros (suc (suc (suc n))) b h = seen-extra_zero (suc (suc n)) b (omega arith) ∙ seen-two_zeros (suc (suc n)) b (omega arith)
-
-three-zeros : (z : ℕ) (more : List ℕ) → replicate z 0 ++ three more ≡ replicate (suc (suc (suc z))) 0 ++ more
-three-zeros z more = replicate-more z 0 (0 ∷ 0 ∷ more) ∙ replicate-more (suc z) 0 (0 ∷ more) ∙ replicate-more (suc (suc z)) 0 more
-
-seen-three : (z : ℕ) (more : List ℕ) → seen (replicate z 0 ++ three more) ≡ seen (0 ∷ 0 ∷ more)
-seen-three z more = ap seen (three-zeros z more) ∙ seen-two_zeros (suc (suc (suc z))) more (omega arith)
-
-pub by_end_between : (p q : Parts) → p.state ≡ Between → q ≡ record p { zeros = 2 } → Step p q (three [])
-by_end_between p q h k =
-    let P : Parts → Type 0 = λ v. Step v q (three []) in
-    let Q : Parts → Type 0 = λ v. Step (parts_of p.waiting p.unit p.zeros Between p.count) v (three []) in
-    subst P (sym (at_state p Between h))
-    (subst Q (sym (k ∙ ap (λ v. parts_of p.waiting p.unit 2 v p.count) h))
-    (quiet p.waiting p.unit p.unit p.zeros 2 Between Between p.count (three []) (λ more o. seen-three p.zeros more) (λ o. o)))
-
-pub by_no_unit_at_end : (p q : Parts) → p.state ≡ Inside → p.unit ≡ [] → q ≡ record p { state = Bad BadUnit } → Step p q (three [])
-by_no_unit_at_end p q h e k =
-    let P : Parts → Type 0 = λ v. Step v q (three []) in
-    let Q : Parts → Type 0 = λ v. Step (parts_of p.waiting p.unit p.zeros Inside p.count) v (three []) in
-    subst P (sym (at_state p Inside h))
-    (subst Q (sym k)
-    (quiet p.waiting p.unit p.unit p.zeros p.zeros Inside (Bad BadUnit) p.count (three [])
-    (λ more o.
-    ap (λ v. seen (0 ∷ 0 ∷ 1 ∷ (v ++ (replicate p.zeros 0 ++ three more)))) e
-    ∙ ap (λ v. seen (0 ∷ 0 ∷ 1 ∷ v)) (three-zeros p.zeros more)
-    ∙ seen-no_unit 2 (0 ∷ 0 ∷ 0 ∷ (replicate p.zeros 0 ++ more)) (omega arith) refl)
-    (λ o. tt)))
-
-pub by_last_unit : (p q : Parts) → p.state ≡ Inside → 0 < length p.unit → q ≡ record (after_unit p) { state = Between; zeros = 2 } → Step p q (three [])
-by_last_unit p q h full k =
-    let P : Parts → Type 0 = λ v. Step v q (three []) in
-    let Q : Parts → Type 0 = λ v. Step (parts_of p.waiting p.unit p.zeros Inside p.count) v (three []) in
-    subst P (sym (at_state p Inside h))
-    (subst Q (sym k)
-    record {
-      ended = p.unit ∷ [];
-      waiting = refl;
-      count = λ fits. refl;
-      next = λ more o.
-          let t : List ℕ = replicate p.zeros 0 ++ three more in
-          seen-unit 2 p.unit t (omega arith) (full_headed p.unit o.1 full) (o.0 t) (ap ends_unit (three-zeros p.zeros more))
-          ∙ ap (followed_by (p.unit ∷ [])) (seen-three p.zeros more);
-      unended = λ o. refl;
-    })
 
 -- the units of the bytes fed are those that were taken and those that wait
 pub seen-units : (p : Parts) (fed : List ℕ) (taken : List (List ℕ)) → p.zeros ≤ 2 → PartsStandFor p fed taken → (seen fed).units ≡ taken ++ p.waiting

@@ -71,7 +71,7 @@ EndShows old unit why = (fed : List ℕ) (taken : List (List ℕ)) → StandsFor
 
 abbrev pub EndStops : Splitter → Splitter → SplitFault → Type 0
 EndStops old new (Bad unit why) = Ends old new × EndShows old unit why × IsBad new (Bad unit why)
-EndStops old new Memory = Keeps old new
+EndStops old new Memory = ⊥
 
 -- this is the next unit of the bytes fed, and it was taken
 abbrev pub Takes : Splitter → Splitter → List ℕ → Type 0

@@ -1,5 +1,7 @@
 // The splitter: bytes in, units out.
-ghost use Rattle.std.specs.Prelude.{◌≡◌, ◌≢◌, ◌↔◌, ◌+◌, ◌-◌, ◌^◌, ◌<◌, ◌≤◌, All, List, [], ◌∷◌, ◌++◌, length, take, map, min, replicate, vec_len, IsTrue, OnOk, OnErr, OnSome, IfOk, IfErr, IfSome, IfNone};
+ghost use Rattle.std.specs.Prelude.{◌≡◌, ◌≢◌, ◌↔◌, ◌+◌, ◌-◌, ◌^◌, ◌<◌, ◌≤◌, All, List, [], ◌∷◌, ◌++◌, length, take, map, min, replicate, slice_index, vec_len, IsTrue, OnOk, OnErr, OnSome, IfOk, IfErr, IfSome, IfNone};
+ghost use Rattle.std.specs.VecDeque.{deque_len, deque_capacity};
+ghost use Rattle.annexb_units.specs.declared.splitter.State.TheVariants.{Inside};
 
 use h264_types::Why;
 use memchr::memchr;
@@ -36,7 +38,7 @@ enum State {
 #[derive(Drop)]
 pub struct Splitter {
     alloc: Global,
-    /// The units that ended and were not taken.
+    /// The units that ended and were not taken, with room for the one that is being read.
     ended: VecDeque<Vec<u8>>,
     /// The unit that is being read, without the zero bytes behind it.
     unit: Vec<u8>,
@@ -46,6 +48,7 @@ pub struct Splitter {
     /// The number of units that ended.
     count: u64,
     ghost few_zeros: { zeros ≤ 2 },
+    ghost room: { state ≡ Inside → deque_len ended < deque_capacity ended },
 }
 
 impl Splitter {
@@ -67,10 +70,12 @@ impl Splitter {
     }
 
     /// Takes the next piece of the stream. At a fault the units before it can still be taken; after `SplitFault::Bad` the
-    /// same fault comes again, and after a want of memory some first bytes of the piece were taken.
+    /// same fault comes again, and after a want of memory some first bytes of the piece were taken. Zero bytes take no
+    /// memory.
     pub fn feed(&mut self, piece: &[u8]) -> Result<(), SplitFault>
         ensures ok { OnOk result (Feeds self.old self.new piece.now × ShowsNone self.old piece.now) }
         ensures err { IfErr result (FeedStops self.old self.new piece.now) }
+        ensures zeros { All (λ x. x ≡ 0) piece.now → IfErr result (λ fault. fault ≢ SplitFault.Memory) }
         ensures again { (fault : _) → IsBad self.old fault → (result ≡ Err fault) × (self.new ≡ self.old) }
     {
         if let State::Bad(why) = self.state {
@@ -91,6 +96,7 @@ impl Splitter {
         requires { 0 < length bytes.now }
         ensures ok { IfOk result (TakesFront self.old self.new bytes.now) }
         ensures err { IfErr result (FeedStops self.old self.new bytes.now) }
+        ensures zero { slice_index bytes.now 0 ≡ 0 → IfErr result (λ fault. fault ≢ SplitFault.Memory) }
     {
         if self.is_within_unit() {
             let run = nonzero_count(bytes);
@@ -130,6 +136,7 @@ impl Splitter {
     fn push(&mut self, byte: u8) -> Result<(), SplitFault>
         ensures ok { OnOk result (Feeds self.old self.new (byte ∷ []) × ShowsNone self.old (byte ∷ [])) }
         ensures err { IfErr result (FeedStops self.old self.new (byte ∷ [])) }
+        ensures zero { byte ≡ 0 → IfErr result (λ fault. fault ≢ SplitFault.Memory) }
     {
         match self.state {
             State::Between => self.push_between(byte),
@@ -142,6 +149,7 @@ impl Splitter {
         requires { self.old.state ≡ State.Between }
         ensures ok { OnOk result (Feeds self.old self.new (byte ∷ []) × ShowsNone self.old (byte ∷ [])) }
         ensures err { IfErr result (FeedStops self.old self.new (byte ∷ [])) }
+        ensures zero { byte ≡ 0 → IfErr result (λ fault. fault ≢ SplitFault.Memory) }
     {
         if byte == 0 {
             if self.zeros < 2 {
@@ -149,6 +157,7 @@ impl Splitter {
             }
             Ok(())
         } else if byte == 1 && self.zeros == 2 {
+            self.make_room(1)?;
             self.zeros = 0;
             self.state = State::Inside;
             Ok(())
@@ -161,15 +170,17 @@ impl Splitter {
         requires { self.old.state ≡ State.Inside }
         ensures ok { OnOk result (Feeds self.old self.new (byte ∷ []) × ShowsNone self.old (byte ∷ [])) }
         ensures err { IfErr result (FeedStops self.old self.new (byte ∷ [])) }
+        ensures zero { byte ≡ 0 → IfErr result (λ fault. fault ≢ SplitFault.Memory) }
     {
         if byte < 2 && self.zeros == 2 {
             if self.unit.is_empty() {
                 return Err(self.stop(Why::Unit));
             }
-            self.end_unit()?;
             if byte == 0 {
-                self.state = State::Between;
+                self.end_unit(State::Between);
             } else {
+                self.make_room(2)?;
+                self.end_unit(State::Inside);
                 self.zeros = 0;
             }
             Ok(())
@@ -195,21 +206,30 @@ impl Splitter {
         }
     }
 
-    // Puts the unit behind those that ended.
-    fn end_unit(&mut self) -> Result<(), SplitFault>
-        ensures ok { OnOk result (parts self.new ≡ record (parts self.old) {
+    // Makes room for so many units more.
+    fn make_room(&mut self, units: usize) -> Result<(), SplitFault>
+        ensures room { OnOk result (deque_len self.new.ended + units ≤ deque_capacity self.new.ended) }
+        ensures parts { parts self.new ≡ parts self.old }
+        ensures memory { IfErr result (λ fault. fault ≡ SplitFault.Memory) }
+    {
+        self.ended.reserve(units).map_err(|_| SplitFault::Memory)
+    }
+
+    // Puts the unit behind those that ended, where it has room.
+    fn end_unit(&mut self, next: State)
+        requires room { deque_len self.old.ended < deque_capacity self.old.ended }
+        requires next { next ≡ State.Inside → deque_len self.old.ended + 1 < deque_capacity self.old.ended }
+        ensures { parts self.new ≡ record (parts self.old) {
           waiting = (parts self.old).waiting ++ (parts self.old).unit ∷ [];
           unit = [];
+          state = next;
           count = min (self.old.count + 1) (2 ^ 64 - 1);
-        }) }
-        ensures err { OnErr result (parts self.new ≡ parts self.old) }
-        ensures memory { IfErr result (λ e. e ≡ SplitFault.Memory) }
+        } }
     {
-        self.ended.reserve(1).map_err(|_| SplitFault::Memory)?;
         let unit = mem::replace(&mut self.unit, Vec::new(self.alloc));
         self.ended.push_back_reserved(unit);
+        self.state = next;
         self.count = self.count.saturating_add(1);
-        Ok(())
     }
 
     // Puts the zero bytes and one more behind the unit.
@@ -229,38 +249,13 @@ impl Splitter {
         Ok(())
     }
 
-    /// Takes the end of the stream, which ends the last unit as three zero bytes would. After a want of memory it can
-    /// be called again.
+    /// Takes the end of the stream, which ends the last unit as three zero bytes do. It takes no memory.
     pub fn end(&mut self) -> Result<(), SplitFault>
         ensures ok { OnOk result (Ends self.old self.new × EndShowsNone self.old) }
         ensures err { IfErr result (EndStops self.old self.new) }
         ensures again { (fault : _) → IsBad self.old fault → (result ≡ Err fault) × (self.new ≡ self.old) }
     {
-        match self.state {
-            State::Between => {
-                self.zeros = 2;
-                Ok(())
-            }
-            State::Inside => self.end_inside(),
-            State::Bad(why) => Err(SplitFault::Bad {
-                unit: self.count,
-                why,
-            }),
-        }
-    }
-
-    fn end_inside(&mut self) -> Result<(), SplitFault>
-        requires { self.old.state ≡ State.Inside }
-        ensures ok { OnOk result (Ends self.old self.new × EndShowsNone self.old) }
-        ensures err { IfErr result (EndStops self.old self.new) }
-    {
-        if self.unit.is_empty() {
-            return Err(self.stop(Why::Unit));
-        }
-        self.end_unit()?;
-        self.state = State::Between;
-        self.zeros = 2;
-        Ok(())
+        self.feed(&[0, 0, 0])
     }
 
     /// Gives the next unit that ended and was not taken. It takes no memory.

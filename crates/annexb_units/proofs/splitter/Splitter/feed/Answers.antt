@@ -1,5 +1,6 @@
-use Rattle.std.proofs.Common.{◌≡◌, arith, sym, take, drop, List, ℕ, subst, length-drop}
+use Rattle.std.proofs.Common.{◌≡◌, slice_index, arith, sym, take, drop, List, ℕ, subst, length-drop}
 use Rattle.std.proofs.lemmas.List.{take_all, take_rest, take-append-drop}
+use Rattle.std.proofs.lemmas.List.Elements.{All-drop}
 use Rattle.std.proofs.lemmas.Result.{err_from_is_err_and}
 use Rattle.h264_types.specs.declared.fault.Why.{Why}
 use Rattle.annexb_units.specs.declared.splitter.State.TheVariants.{Bad}
@@ -36,7 +37,7 @@ returns c =
     let s = c.args.self.now in
     let all = take_all c.loop-at.at c.args.piece.now c.loop-at-test.false in
     let P : List ℕ → Type 0 = λ b. Feeds s c.loop-at.self b × ShowsNone s b in
-    record { ok = subst P all c.loop-at.invariant.fed; err = tt; again = λ fault k. absurd (not_bad s fault c.in_default.not-Bad k) }
+    record { ok = subst P all c.loop-at.invariant.fed; err = tt; zeros = λ none. tt; again = λ fault k. absurd (not_bad s fault c.in_default.not-Bad k) }
 
 pub returns-in_err-at : goal.returns-in_err-at
 returns-in_err-at c =
@@ -44,9 +45,11 @@ returns-in_err-at c =
     let at = c.loop-at.at in
     let piece = c.args.piece.now in
     let P : List ℕ → Type 0 = λ b. FeedStops c.loop-at.self c.take_front.new.self b c.in_err-at.field-0.0 in
+    let Z : List ℕ → Type 0 = λ b. slice_index b 0 ≡ 0 in
     let p = err_from_is_err_and c.from_residual.result c.from_residual.ensures.1 in
     rw (p.1, p.2) record {
       ok = tt;
       err = stops-behind s c.loop-at.self c.take_front.new.self (take at piece) (drop at piece) piece c.in_err-at.field-0.0 (sym (take-append-drop at piece)) c.loop-at.invariant.fed.0 (subst P (take_rest piece at) c.in_err-at.ensures.err);
+      zeros = λ all. c.in_err-at.ensures.zero (subst Z (sym (take_rest piece at)) (All-drop (λ x. x ≡ 0) at piece all 0 0 (omega (arith, c.loop-at-test.true, length-drop at piece))));
       again = λ fault k. absurd (not_bad s fault c.in_default.not-Bad k);
     }
