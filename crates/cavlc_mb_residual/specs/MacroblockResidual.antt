@@ -1,5 +1,5 @@
 -- The residual of a macroblock (ITU-T H.264, 7.3.5.3): its lists in their order, and those that are in range.
-use Rattle.std.specs.Prelude.{◌≡◌, ℕ, ◌≤◌, ◌==◌, ◌||◌, ℤ, pos, negsuc, nat_lt, Bool, if◌then◌else◌, List, [], ◌++◌, length, slice_index_or}
+use Rattle.std.specs.Prelude.{ℕ, ◌≤◌, ◌==◌, ◌||◌, ℤ, pos, negsuc, nat_lt, Bool, if◌then◌else◌, List, [], ◌++◌, slice_index_or}
 use Rattle.std.specs.List.{AllByRecursion, list_any}
 use Rattle.cavlc_residual.specs.Coefficients.{magnitude}
 use Rattle.cavlc_residual.specs.Block.{is_beyond}

@@ -7,4 +7,4 @@ pub returns : goal.returns
 returns c = sym (any_none (is_beyond c.args.bound) c.args.lists.now (λ m below. c.loop-levels.invariant m (omega (arith, below, c.loop-levels-test.false))))
 
 pub loop-levels-preserved : goal.loop-levels-preserved
-loop-levels-preserved c = below_more _ _ c.loop-levels.invariant (sym c.is_beyond_list.ensures ∙ c.if-is_beyond_list.false)
+loop-levels-preserved c = below_more _ _ c.loop-levels.invariant (sym c.is_beyond.ensures ∙ c.if-is_beyond.false)
