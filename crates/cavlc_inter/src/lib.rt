@@ -11,6 +11,3 @@ mod subs;
 mod vectors;
 
 pub use inter::{read_inter, write_inter};
-
-#[cfg(test)]
-mod tests;

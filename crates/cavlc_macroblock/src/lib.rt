@@ -15,6 +15,3 @@ mod transform_size;
 
 pub use alignment::{read_alignment, write_alignment};
 pub use macroblock::{read_macroblock, write_macroblock};
-
-#[cfg(test)]
-mod tests;

@@ -10,8 +10,6 @@ mod lists;
 mod luma;
 mod nc;
 mod residual;
-#[cfg(test)]
-mod tests;
 mod transform_8x8;
 
 pub use beyond::is_beyond;

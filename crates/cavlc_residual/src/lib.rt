@@ -16,6 +16,3 @@ mod writing;
 pub use beyond::is_beyond;
 pub use block::{read_block, read_levels, write_block, write_levels};
 pub use fault::BlockFault;
-
-#[cfg(test)]
-mod tests;

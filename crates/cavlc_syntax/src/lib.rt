@@ -15,6 +15,3 @@ mod writer;
 pub use fault::{PutFault, SliceFault};
 pub use reader::{CavlcReader, Step};
 pub use writer::CavlcWriter;
-
-#[cfg(test)]
-mod tests;

@@ -19,6 +19,3 @@ pub use runs::{run_before, run_before_table};
 pub use table::{Code, CodeTable};
 pub use tokens::{coeff_token, coeff_token_table};
 pub use zeros::{total_zeros, total_zeros_table};
-
-#[cfg(test)]
-mod tests;

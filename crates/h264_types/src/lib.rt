@@ -23,6 +23,3 @@ pub use sent::mode_count;
 pub use sizes::has_sizes;
 pub use slice_shape::{SliceKind, SliceShape};
 pub use validity::valid;
-
-#[cfg(test)]
-mod tests;

@@ -11,6 +11,3 @@ mod rows;
 
 pub use near::{above, left};
 pub use place::{At, Spot};
-
-#[cfg(test)]
-mod tests;

@@ -6,6 +6,3 @@ pub mod laws;
 mod normal;
 
 pub use normal::{Emptied, fix, normalise};
-
-#[cfg(test)]
-mod tests;

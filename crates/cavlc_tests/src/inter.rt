@@ -1,4 +1,5 @@
-use super::*;
+//! The prediction of P and B macroblocks in CAVLC (7.3.5.1, 7.3.5.2).
+use cavlc_inter::{read_inter, write_inter};
 use exp_golomb::{BitSink, BitVec, SliceBits};
 use h264_types::{Mb, MbKind};
 use std::alloc::Global;

@@ -1,9 +1,10 @@
+//! Residual blocks in CAVLC (9.2): worked texts, and the levels at the end of the escape.
 ghost use Rattle.std.specs.Prelude.{◌≤◌, length};
 ghost use Rattle.std.specs.List.{AllByRecursion};
 ghost use Rattle.cavlc_residual.specs.Coefficients.{magnitude};
 ghost use Rattle.cavlc_residual.specs.Block.{IsShape};
 
-use super::*;
+use cavlc_residual::{BlockFault, read_block, read_levels, write_block, write_levels};
 use exp_golomb::{BitSink, BitVec, SliceBits};
 use h264_types::Levels;
 use std::alloc::Global;

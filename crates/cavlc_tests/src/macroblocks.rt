@@ -1,0 +1,205 @@
+//! Macroblocks in CAVLC (7.3.5).
+ghost use Rattle.std.specs.Prelude.{◌≡◌, false};
+ghost use Rattle.cavlc_mb_residual.specs.Counts.{IsAround};
+ghost use Rattle.cavlc_macroblock.specs.MacroblockLayer.{HasFewRefs};
+
+use cavlc_macroblock::{read_macroblock, write_alignment, write_macroblock};
+use cavlc_mb_residual::{Around, Sides};
+use exp_golomb::{BitSink, BitVec, SliceBits};
+use h264_types::{Mb, MbKind, Pattern, SliceKind, SliceShape};
+use std::alloc::Global;
+use std::test::Fail;
+
+/// Nothing is available on either side.
+const NOTHING: Sides = Sides {
+    left: None,
+    above: None,
+};
+
+const ALONE: Around = Around {
+    luma: NOTHING,
+    cb: NOTHING,
+    cr: NOTHING,
+};
+
+/// A slice with two references of each list, in High profile.
+fn shape_of(kind: SliceKind, direct8: bool) -> SliceShape
+    ensures frame { result.mbaff ≡ false }
+    ensures refs { HasFewRefs result }
+{
+    SliceShape {
+        kind,
+        width: 1,
+        height: 1,
+        first: 0,
+        mbaff: false,
+        field_pic: false,
+        refs: [2, 2],
+        t8_mode: true,
+        direct8,
+        profile: 100,
+        qp: 26,
+        column: 0,
+    }
+}
+
+/// The bytes of a macroblock that was read, filled up with zero bits; none where none was read.
+fn read_and_written(
+    alloc: Global,
+    shape: &SliceShape,
+    around: &Around,
+    bytes: &[u8],
+    mb: &mut Mb,
+) -> Result<Vec<u8>, Fail>
+    requires frame { shape.now.mbaff ≡ false }
+    requires refs { HasFewRefs shape.now }
+    requires around { IsAround around.now }
+{
+    let mut bits = SliceBits::new(bytes);
+    let Some(()) = read_macroblock(&mut bits, shape, around, 20, mb) else {
+        return Ok(Vec::new(alloc));
+    };
+    let mut text = BitVec::new(alloc);
+    write_macroblock(&mut text, shape, around, mb)?;
+    write_alignment(&mut text)?;
+    if text.aligned() {
+        return Ok(text.into_bytes());
+    }
+    Ok(Vec::new(alloc))
+}
+
+#[test]
+fn texts_of_macroblocks(rt: HostRuntime) -> Result<(), Fail> {
+    // the slice, direct_8x8_inference_flag, the bits with those that are read, and the type
+    let rows: [(SliceKind, bool, &[u8], &[u8], MbKind); 11] = [
+        // I_16x16 with mode 2 and a DC level, in I; without levels in P and in B
+        (
+            SliceKind::I,
+            false,
+            &[0x26, 0xa0],
+            &[0x26, 0xa0],
+            MbKind::Intra(3),
+        ),
+        (
+            SliceKind::P,
+            false,
+            &[0x13, 0xc0],
+            &[0x13, 0xc0],
+            MbKind::Intra(3),
+        ),
+        (
+            SliceKind::B,
+            false,
+            &[0x0d, 0xf0],
+            &[0x0d, 0xf0],
+            MbKind::Intra(3),
+        ),
+        // I_NxN with the 8x8 transform and no levels
+        (
+            SliceKind::I,
+            false,
+            &[0xe7, 0xc8],
+            &[0xe7, 0xc8],
+            MbKind::Intra(0),
+        ),
+        // P_L0_16x16, P_8x8 with the indices 0, 1, 0, 0, and P_8x8ref0, all with zero vectors
+        (SliceKind::P, false, &[0xf8], &[0xf8], MbKind::P(0)),
+        (
+            SliceKind::P,
+            false,
+            &[0x27, 0xdf, 0xfc],
+            &[0x27, 0xdf, 0xfc],
+            MbKind::P(3),
+        ),
+        (
+            SliceKind::P,
+            false,
+            &[0x2f, 0xff, 0xc0],
+            &[0x2f, 0xff, 0xc0],
+            MbKind::P(3),
+        ),
+        // B_Bi_16x16 with the indices 1 and 0, and the vector differences (1, 0) and (0, -1)
+        (
+            SliceKind::B,
+            true,
+            &[0x22, 0xb7],
+            &[0x22, 0xb7],
+            MbKind::B(3),
+        ),
+        // B_Direct_16x16 with luma pattern 1: the transform's flag is sent with direct_8x8_inference_flag alone
+        (
+            SliceKind::B,
+            true,
+            &[0xbf, 0xc0],
+            &[0xbf, 0xc0],
+            MbKind::B(0),
+        ),
+        (
+            SliceKind::B,
+            false,
+            &[0xbf, 0xc0],
+            &[0xbf, 0x80],
+            MbKind::B(0),
+        ),
+        // the bits end in the modes
+        (SliceKind::I, false, &[0xbf], &[], MbKind::Intra(0)),
+    ];
+    for (slice, direct8, bytes, text, kind) in rows {
+        let mut mb = Mb::without_elements(MbKind::Intra(0));
+        let shape = shape_of(slice, direct8);
+        let written = read_and_written(rt.alloc(), &shape, &ALONE, bytes, &mut mb)?;
+        assert_eq!(rt; written.as_slice(), text);
+        if !text.is_empty() {
+            assert_eq!(rt; mb.kind, kind);
+        }
+    }
+    Ok(())
+}
+
+#[test]
+fn elements_of_intra_macroblocks(rt: HostRuntime) -> Result<(), Fail> {
+    let shape = shape_of(SliceKind::I, false);
+    let mut mb = Mb::without_elements(MbKind::Skip);
+    read_and_written(rt.alloc(), &shape, &ALONE, &[0xe7, 0xc8], &mut mb)?;
+    assert!(rt; mb.t8);
+    assert_eq!(rt; (mb.modes[0], mb.modes[1], mb.modes[4]), (8, 3, 0));
+
+    let around = Around {
+        luma: Sides {
+            left: Some([2, 0, 0, 0]),
+            above: Some([4, 0, 0, 0]),
+        },
+        cb: NOTHING,
+        cr: NOTHING,
+    };
+    let bytes = [0x8f, 0xff, 0xfa, 0x0f, 0x39, 0xe0];
+    let text = read_and_written(rt.alloc(), &shape, &around, &bytes, &mut mb)?;
+    assert_eq!(rt; text.as_slice(), bytes.as_slice());
+    assert!(rt; !mb.t8);
+    assert_eq!(rt; (mb.modes[0], mb.modes[1], mb.chroma_mode), (3, 8, 1));
+    assert_eq!(rt; mb.pattern, Pattern { luma: 1, chroma: 0 });
+    assert_eq!(rt; (mb.qp_delta, mb.luma[0][0]), (-1, 1));
+    Ok(())
+}
+
+#[test]
+fn i_pcm_of_p_slices(rt: HostRuntime) -> Result<(), Fail> {
+    let shape = shape_of(SliceKind::P, false);
+    let mut mb = Mb::without_elements(MbKind::Skip);
+    let mut bytes = [7; 386];
+    bytes[0] = 0x0f;
+    bytes[1] = 0x80;
+    bytes[2] = 1;
+    let text = read_and_written(rt.alloc(), &shape, &ALONE, &bytes, &mut mb)?;
+    assert_eq!(rt; text.as_slice(), bytes.as_slice());
+    assert_eq!(rt;
+        (mb.kind, mb.pcm[0], mb.pcm[383]),
+        (MbKind::Intra(25), 1, 7)
+    );
+
+    // a bit of the alignment is 1
+    bytes[1] = 0x81;
+    let text = read_and_written(rt.alloc(), &shape, &ALONE, &bytes, &mut mb)?;
+    assert_eq!(rt; text.as_slice().len(), 0);
+    Ok(())
+}

@@ -1,0 +1,195 @@
+//! The data of slices in CAVLC (7.3.4): how many macroblocks are read, and where there is no reading.
+ghost use Rattle.std.specs.Prelude.{◌≡◌, ◌≤◌};
+ghost use Rattle.cavlc_syntax.specs.SliceText.{IsBuiltShape};
+
+use cavlc_syntax::{CavlcReader, SliceFault, Step};
+use exp_golomb::{BitSource, SliceBits};
+use h264_types::{SliceKind, SliceShape};
+use std::alloc::Global;
+use std::test::Fail;
+
+/// A slice of this kind that begins a picture, with one reference of each list.
+fn shape_of(kind: SliceKind, width: u32, height: u32) -> SliceShape
+    requires some { (1 ≤ width) × (1 ≤ height) }
+    requires few { (width ≤ 11) × (height ≤ 9) }
+    ensures { IsBuiltShape result }
+{
+    SliceShape {
+        kind,
+        width,
+        height,
+        first: 0,
+        mbaff: false,
+        field_pic: false,
+        refs: [1, 1],
+        t8_mode: false,
+        direct8: true,
+        profile: 77,
+        qp: 26,
+        column: 0,
+    }
+}
+
+/// Each byte so many times.
+fn bytes_of(alloc: Global, runs: &[(u16, u8)]) -> Result<Vec<u8>, Fail> {
+    let mut bytes = Vec::new(alloc);
+    for (count, byte) in runs {
+        for _i in 0..*count {
+            bytes.push(*byte)?;
+        }
+    }
+    Ok(bytes)
+}
+
+/// How many macroblocks a reader gives, how many of them are skipped, and its refusal, if any.
+fn read(
+    alloc: Global,
+    shape: SliceShape,
+    bits: SliceBits<'_>,
+) -> Result<(u8, u8, Option<SliceFault>), Fail>
+    requires { IsBuiltShape shape }
+{
+    let mut reader = CavlcReader::start(alloc, shape, bits)?;
+    let mut skipped = 0u8;
+    for count in 0..100u8 {
+        match reader.next() {
+            Ok(Step::Mb(mb)) => skipped = skipped.saturating_add(u8::from(mb.kind.is_skip())),
+            Ok(Step::End) => {
+                let left = reader.into_bits().bit();
+                return Ok((count, skipped, left.map(|_| SliceFault::Memory)));
+            }
+            Err(fault) => return Ok((count, skipped, Some(fault))),
+        }
+    }
+    Ok((100, skipped, None))
+}
+
+#[test]
+fn runs_of_skipped_macroblocks(rt: HostRuntime) -> Result<(), Fail> {
+    let none = None;
+    let no_reading = Some(SliceFault::NoReading);
+    // the picture, the bytes, how many macroblocks and skipped ones are read, and the refusal
+    let rows: [(SliceKind, u32, u32, &[u8], u8, u8, Option<SliceFault>); 14] = [
+        // mb_skip_run 1, and the end
+        (SliceKind::P, 1, 1, &[0x50], 1, 1, none),
+        (SliceKind::B, 2, 1, &[0x70], 2, 2, none),
+        (SliceKind::P, 11, 9, &[0x03, 0x24], 99, 99, none),
+        // more than the picture has room for, at the beginning and behind two macroblocks
+        (SliceKind::P, 1, 1, &[0x70], 0, 0, no_reading),
+        (SliceKind::P, 11, 9, &[0x03, 0x2C], 0, 0, no_reading),
+        (SliceKind::P, 2, 1, &[0x5E, 0xA0], 2, 1, no_reading),
+        // P_L0_16x16 without levels; behind it mb_skip_run 0, and the end
+        (SliceKind::P, 1, 1, &[0xFC], 1, 0, none),
+        (SliceKind::P, 1, 1, &[0xC0], 0, 0, no_reading),
+        (SliceKind::P, 2, 1, &[0xFE], 1, 0, no_reading),
+        // no stop bit, no bit, and bytes behind the stop bit
+        (SliceKind::P, 1, 1, &[0x40], 1, 1, no_reading),
+        (SliceKind::P, 1, 1, &[], 0, 0, no_reading),
+        (SliceKind::P, 1, 1, &[0x50, 0], 1, 1, no_reading),
+        // B_Direct_16x16 and B_Skip
+        (SliceKind::B, 2, 1, &[0xEA], 2, 1, none),
+        // a skipped one above a macroblock counts nothing, whatever stands above it
+        (
+            SliceKind::P,
+            1,
+            3,
+            &[0xF2, 0xF1, 0x85, 0xD7, 0x7F, 0x80],
+            3,
+            1,
+            none,
+        ),
+    ];
+    for (kind, width, height, bytes, count, skipped, fault) in rows {
+        let shape = shape_of(kind, width, height);
+        let answer = read(rt.alloc(), shape, SliceBits::new(bytes))?;
+        assert_eq!(rt; answer, (count, skipped, fault));
+    }
+    Ok(())
+}
+
+#[test]
+fn slices_with_samples(rt: HostRuntime) -> Result<(), Fail> {
+    let none = None;
+    let no_reading = Some(SliceFault::NoReading);
+    // the width, the bits before the data, the bytes, how many macroblocks are read, and the refusal
+    let rows: [(u32, u8, &[(u16, u8)], u8, Option<SliceFault>); 8] = [
+        // a header of 17 bits; its samples are 00 00 00 and 80
+        (
+            1,
+            17,
+            &[
+                (1, 0x88),
+                (1, 0x84),
+                (1, 0x86),
+                (1, 0x80),
+                (3, 0),
+                (382, 0x80),
+            ],
+            1,
+            none,
+        ),
+        (
+            2,
+            0,
+            &[
+                (1, 0x0D),
+                (1, 0),
+                (384, 0x80),
+                (1, 0x0D),
+                (1, 0),
+                (384, 0),
+                (1, 0x80),
+            ],
+            2,
+            none,
+        ),
+        // more than the picture has room for
+        (
+            1,
+            0,
+            &[
+                (1, 0x0D),
+                (1, 0),
+                (384, 1),
+                (1, 0x0D),
+                (1, 0),
+                (384, 2),
+                (1, 0x80),
+            ],
+            1,
+            no_reading,
+        ),
+        // cut; without a stop bit; with bits behind it; an alignment bit of 1; mb_type 26
+        (1, 0, &[(1, 0x0D), (1, 0), (383, 0x80)], 0, no_reading),
+        (1, 0, &[(1, 0x0D), (1, 0), (384, 0x80)], 1, no_reading),
+        (
+            1,
+            0,
+            &[(1, 0x0D), (1, 0), (384, 0x80), (1, 0x81)],
+            1,
+            no_reading,
+        ),
+        (
+            1,
+            0,
+            &[(1, 0x0D), (1, 0x40), (384, 0x80), (1, 0x80)],
+            0,
+            no_reading,
+        ),
+        (
+            1,
+            0,
+            &[(1, 0x0D), (1, 0x80), (384, 0x80), (1, 0x80)],
+            0,
+            no_reading,
+        ),
+    ];
+    for (width, before, runs, count, fault) in rows {
+        let bytes = bytes_of(rt.alloc(), runs)?;
+        let mut bits = SliceBits::new(bytes.as_slice());
+        assert!(rt; bits.skip(before));
+        let answer = read(rt.alloc(), shape_of(SliceKind::I, width, 1), bits)?;
+        assert_eq!(rt; answer, (count, 0, fault));
+    }
+    Ok(())
+}

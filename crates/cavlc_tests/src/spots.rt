@@ -1,0 +1,48 @@
+//! What the tries of neighbours share.
+ghost use Rattle.std.specs.Prelude.{◌≡◌, ◌<◌, ◌↔◌, IsTrue};
+ghost use Rattle.mb_neighbours.specs.Place.{IsPlace};
+
+use h264_types::{Mb, MbKind, SliceKind, SliceShape};
+use mb_neighbours::{At, Spot};
+
+pub fn shape(width: u32, first: u32, mbaff: bool) -> SliceShape
+    ensures width { result.width ≡ width }
+    ensures height { result.height ≡ 8 }
+    ensures first { result.first ≡ first }
+    ensures mbaff { result.mbaff ≡ mbaff }
+{
+    SliceShape {
+        kind: SliceKind::P,
+        width,
+        height: 8,
+        first,
+        mbaff,
+        field_pic: false,
+        refs: [1, 0],
+        t8_mode: false,
+        direct8: true,
+        profile: 77,
+        qp: 26,
+        column: 1,
+    }
+}
+
+pub fn skipped(field: bool) -> Mb {
+    let mut mb = Mb::without_elements(MbKind::Skip);
+    mb.field = field;
+    mb
+}
+
+pub fn spot(mb: u32, block: u8) -> Option<Spot> {
+    Some(Spot { mb, block })
+}
+
+pub fn is_place(place: At) -> bool
+    ensures { IsTrue result ↔ IsPlace place }
+{
+    match place {
+        At::Whole => true,
+        At::Luma4(block) => block < 16,
+        At::Luma8(block) | At::Chroma4(block) => block < 4,
+    }
+}
