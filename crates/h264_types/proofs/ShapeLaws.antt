@@ -1,10 +1,11 @@
 -- What follows from a slice's shape.
-use Rattle.std.proofs.Common.{◌≡◌, ℕ, ◌≤◌, Bool, true, false, refl, arith}
+use Rattle.std.proofs.Common.{◌≡◌, ℕ, zero, suc, ◌+◌, ◌*◌, ◌<◌, ◌≤◌, Bool, true, false, refl, arith}
 use Rattle.std.specs.Prelude.{◌&&◌, ◌||◌, ◌==◌, not, slice_index}
 use Rattle.h264_types.specs.declared.macroblock.Mb.{Mb}
 use Rattle.h264_types.specs.declared.slice_shape.SliceShape.{SliceShape}
 use Rattle.h264_types.specs.Kind.{is_i_nxn}
 use Rattle.h264_types.specs.Sent.{sends_t8, takes_t8}
+use Rattle.h264_types.specs.Slice.{IsInPicture}
 use Rattle.h264_types.specs.SliceShape.{most_refs, HasRefs}
 
 -- a list has at most 32 active references, in frames and in fields
@@ -24,3 +25,11 @@ sends_t8-under shape mb = by shape.t8_mode (is_i_nxn mb.kind) (not (mb.pattern.l
     by : (mode nxn last : Bool) → ((mode && nxn) || (mode && last)) ≡ (mode && (nxn || last))
     by true nxn last = refl
     by false nxn last = refl
+
+-- a picture with a macroblock has a column of them
+pub wide : (shape : SliceShape) (at : ℕ) → IsInPicture shape at → 0 < shape.width
+wide shape at h = some shape.width shape.height (shape.first + at) h
+  where
+    some : (width height n : ℕ) → n < width * height → 0 < width
+    some zero height n h = absurd (omega arith)
+    some (suc width) height n h = omega arith

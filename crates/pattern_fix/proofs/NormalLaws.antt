@@ -114,8 +114,8 @@ normal-normal mb =
 
 pub emptied-normal : (mb : Mb) → IsEmptied (normal mb) ↔ IsEmptied mb
 emptied-normal mb = (
-  λ h. record { kind = h.kind; luma = sym (same_luma mb) ∙ h.luma; chroma = h.chroma; qp_delta = h.qp_delta },
-  λ h. record { kind = h.kind; luma = same_luma mb ∙ h.luma; chroma = h.chroma; qp_delta = h.qp_delta },
+  λ h. record { sent = h.sent; luma = sym (same_luma mb) ∙ h.luma; chroma = h.chroma; qp_delta = h.qp_delta },
+  λ h. record { sent = h.sent; luma = same_luma mb ∙ h.luma; chroma = h.chroma; qp_delta = h.qp_delta },
 )
 
 -- without the 8x8 transform no bit is cleared

@@ -11,11 +11,12 @@ use Rattle.h264_types.specs.declared.macroblock.MbKind.{MbKind}
 use Rattle.h264_types.specs.declared.macroblock.MbKind.TheVariants.{Skip, Intra, P, B}
 use Rattle.h264_types.specs.declared.macroblock.Pattern.{Pattern}
 use Rattle.h264_types.specs.declared.slice_shape.SliceShape.{SliceShape}
-use Rattle.h264_types.specs.Kind.{is_inter, is_i_nxn, is_i_16x16, is_i_pcm, is_skip}
+use Rattle.h264_types.specs.Kind.{is_inter, is_i_nxn, is_i_16x16}
 use Rattle.h264_types.specs.Macroblock.{no_elements, quarter_of, pattern_of}
 use Rattle.h264_types.specs.Sent.{takes_t8, mode_count, sends_pattern}
 use Rattle.h264_types.specs.Sizes.{HasSizes}
 use Rattle.h264_types.specs.Valid.{IsTyped, IsIntraPredicted, IsInterPredicted, IsListSent, IsWithin, IsPattern, IsQpDelta, IsQuarterCoded, IsLumaCoded, IsChromaCoded, IsCoded, IsMacroblock}
+use Rattle.h264_types.proofs.KindLaws.{intra_takes_none, other_pattern, no_16x16}
 use Rattle.pattern_fix.specs.NormalPattern.{all_zero, is_empty, normal_luma, normal, IsEmptied}
 use Rattle.pattern_fix.proofs.NormalLaws.{bit_at-normal_luma}
 
@@ -35,12 +36,6 @@ flag_sent true true false false x true z' intra sent h = absurd (let e : false �
 flag_sent true true false false true false z' intra sent h = absurd (let e : true ≡ false = intra refl in cc)
 flag_sent true true false false false false z' intra sent h = absurd (let e : false ≡ true = sent refl in cc)
 
-intra_sends_none : (direct8 : Bool) (kind : MbKind) (subs : List ℕ) → is_inter kind ≡ false → takes_t8 direct8 kind subs ≡ false
-intra_sends_none direct8 Skip subs h = refl
-intra_sends_none direct8 (Intra n) subs h = refl
-intra_sends_none direct8 (P n) subs h = absurd (cc)
-intra_sends_none direct8 (B n) subs h = absurd (cc)
-
 typed : (shape : SliceShape) (mb : Mb) → IsTyped shape mb → IsTyped shape (normal mb)
 typed shape mb is = record {
   kind = is.kind;
@@ -48,7 +43,7 @@ typed shape mb is = record {
   field = is.field;
   t8 =
       flag_sent mb.t8 shape.t8_mode (is_inter mb.kind) (is_i_nxn mb.kind) (takes_t8 shape.direct8 mb.kind mb.subs) (mb.pattern.luma == 0) (normal_luma mb == 0)
-      (intra_sends_none shape.direct8 mb.kind mb.subs) is.t8;
+      (intra_takes_none shape.direct8 mb.kind mb.subs) is.t8;
 }
 
 -- ---- prediction
@@ -157,12 +152,6 @@ zero_or_not (pos zero) = inl refl
 zero_or_not (pos (suc n)) = inr (λ e. absurd (omega (arith, ap unsigned_abs e)))
 zero_or_not (negsuc n) = inr (λ e. absurd (cc))
 
-sends_none : (kind : MbKind) → is_i_16x16 kind ≡ false → (is_i_16x16 kind || is_i_pcm kind || is_skip kind) ≡ true → sends_pattern kind ≡ false
-sends_none Skip other h = refl
-sends_none (Intra n) other h = grind (arith, nat_tests)
-sends_none (P n) other h = absurd (cc)
-sends_none (B n) other h = absurd (cc)
-
 abbrev delta_bound : Bool → ℕ → ℕ → ℕ
 delta_bound i_16x16 luma chroma = if i_16x16 || not (luma == 0 && chroma == 0) then 26 else 0
 
@@ -182,17 +171,16 @@ qp_delta mb pattern is kept =
     small = omega (arith, is.magnitude, most (is_i_16x16 mb.kind) mb.pattern.luma mb.pattern.chroma)
 
     -- a type without a pattern has no delta
-    none : (b : Bool) → (is_i_16x16 mb.kind || is_i_pcm mb.kind || is_skip mb.kind) ≡ b → is_i_16x16 mb.kind ≡ false → normal_luma mb ≡ 0 → mb.pattern.chroma ≡ 0 → unsigned_abs mb.qp_delta ≤ 0
-    none true e other no_luma no_chroma =
-        let unsent : sends_pattern mb.kind ≡ false = sends_none mb.kind other e in
-        let luma_bound : mb.pattern.luma ≤ 0 = subst (λ b. mb.pattern.luma ≤ (if b then 15 else 0)) unsent pattern.luma in
+    none : (sent : Bool) → sends_pattern mb.kind ≡ sent → is_i_16x16 mb.kind ≡ false → normal_luma mb ≡ 0 → mb.pattern.chroma ≡ 0 → unsigned_abs mb.qp_delta ≤ 0
+    none false e other no_luma no_chroma =
+        let luma_bound : mb.pattern.luma ≤ 0 = subst (λ b. mb.pattern.luma ≤ (if b then 15 else 0)) e pattern.luma in
         let unset : mb.pattern.luma ≡ 0 = omega arith in
         let bound : delta_bound (is_i_16x16 mb.kind) mb.pattern.luma mb.pattern.chroma ≡ 0 = ap (λ b. delta_bound b mb.pattern.luma mb.pattern.chroma) other ∙ ap (λ n. delta_bound false n mb.pattern.chroma) unset ∙ ap (delta_bound false 0) no_chroma in
         subst (λ n. unsigned_abs mb.qp_delta ≤ n) bound is.magnitude
-    none false e other no_luma no_chroma =
+    none true e other no_luma no_chroma =
         elim (zero_or_not mb.qp_delta) [
           | inl zero_delta ↦ rw zero_delta (omega arith)
-          | inr some ↦ absurd (kept (record { kind = e; luma = no_luma; chroma = no_chroma; qp_delta = some }))
+          | inr some ↦ absurd (kept (record { sent = e; luma = no_luma; chroma = no_chroma; qp_delta = some }))
         ]
 
     by : (i z c : Bool) → is_i_16x16 mb.kind ≡ i → (normal_luma mb == 0) ≡ z → (mb.pattern.chroma == 0) ≡ c → unsigned_abs mb.qp_delta ≤ delta_bound (is_i_16x16 mb.kind) (normal_luma mb) mb.pattern.chroma
@@ -205,7 +193,7 @@ qp_delta mb pattern is kept =
         (subst (λ b. unsigned_abs mb.qp_delta ≤ (if not (b && (mb.pattern.chroma == 0)) then 26 else 0)) (sym ez)
         (subst (λ b. unsigned_abs mb.qp_delta ≤ (if not b then 26 else 0)) (sym ec) small))
     by false true true ei ez ec =
-        let no : unsigned_abs mb.qp_delta ≤ 0 = none (is_i_16x16 mb.kind || is_i_pcm mb.kind || is_skip mb.kind) refl ei (grind (arith, nat_tests)) (grind (arith, nat_tests)) in
+        let no : unsigned_abs mb.qp_delta ≤ 0 = none (sends_pattern mb.kind) refl ei (grind (arith, nat_tests)) (grind (arith, nat_tests)) in
         omega (arith, no)
 
 coded : (mb : Mb) → IsCoded mb → (IsEmptied mb → ⊥) → IsCoded (normal mb)
@@ -243,26 +231,11 @@ valid-normal shape mb is kept = record {
 
 -- it sends its pattern
 emptied_pattern : (mb : Mb) → IsEmptied mb → pattern_of mb ≡ mb.pattern
-unfolding pattern_for
-emptied_pattern mb is = by mb.kind is.kind
-  where
-    by : (kind : MbKind) → (is_i_16x16 kind || is_i_pcm kind || is_skip kind) ≡ false → pattern_for kind mb.pattern ≡ mb.pattern
-    by Skip h = refl
-    by (P n) h = refl
-    by (B n) h = refl
-    by (Intra n) h = on (is_i_16x16 (Intra n)) (is_i_pcm (Intra n)) h _
-      where
-        on : (i p : Bool) → (i || p || false) ≡ false → (typed : Pattern) → (if i then typed else mb.pattern) ≡ mb.pattern
-        on true p h typed = absurd (cc)
-        on false p h typed = refl
-
-no_i_16x16 : (i p s : Bool) → (i || p || s) ≡ false → i ≡ false
-no_i_16x16 true p s h = absurd (cc)
-no_i_16x16 false p s h = refl
+emptied_pattern mb is = other_pattern mb mb.kind (no_16x16 mb.kind is.sent)
 
 pub emptied-dc : (shape : SliceShape) (mb : Mb) → IsMacroblock shape mb → IsEmptied mb → IsWithin 0 mb.dc
 emptied-dc shape mb is emptied =
-    subst (λ b. IsWithin (if b then 65535 else 0) mb.dc) (no_i_16x16 (is_i_16x16 mb.kind) (is_i_pcm mb.kind) (is_skip mb.kind) emptied.kind) is.coded.luma.dc
+    subst (λ b. IsWithin (if b then 65535 else 0) mb.dc) (no_16x16 mb.kind emptied.sent) is.coded.luma.dc
 
 pub emptied-luma : (shape : SliceShape) (mb : Mb) (q : ℕ) → IsMacroblock shape mb → IsEmptied mb → q < 4 → IsWithin 0 (quarter_of mb q)
 emptied-luma shape mb q is emptied below = by (is_empty mb q) refl

@@ -4,11 +4,12 @@
 -- sends them as four lists of 16, and each may be all 0 (7.3.5.3.2, 9.2). CABAC sends one list of 64, without a
 -- coded_block_flag and so with a level other than 0 (7.3.5.3.3). In the normal form the bit is 0 where all 64 levels are.
 -- Every other bit of luma and all of chroma stays.
-use Rattle.std.specs.Prelude.{◌≡◌, ◌≢◌, ℕ, ◌+◌, ◌-◌, ◌*◌, ◌^◌, Bool, false, not, ◌&&◌, ◌||◌, ◌==◌, if◌then◌else◌, ℤ, pos, List}
+use Rattle.std.specs.Prelude.{◌≡◌, ◌≢◌, ℕ, ◌+◌, ◌-◌, ◌*◌, ◌^◌, Bool, true, not, ◌&&◌, ◌==◌, if◌then◌else◌, ℤ, pos, List}
 use Rattle.std.specs.Int.{bit_at}
 use Rattle.std.specs.List.{list_all}
 use Rattle.std.specs.Ordering.{int_eq}
-use Rattle.h264_types.specs.Kind.{is_inter, is_i_16x16, is_i_pcm, is_skip}
+use Rattle.h264_types.specs.Kind.{is_inter}
+use Rattle.h264_types.specs.Sent.{sends_pattern}
 use Rattle.h264_types.specs.Macroblock.{quarter_of}
 use Rattle.h264_types.specs.declared.macroblock.Mb.{Mb}
 
@@ -34,10 +35,9 @@ normal_t8 mb = mb.t8 && not (is_inter mb.kind && normal_luma mb == 0)
 abbrev pub normal : Mb → Mb
 normal mb = record mb { pattern = record mb.pattern { luma = normal_luma mb }; t8 = normal_t8 mb }
 
--- mb_qp_delta is sent behind a pattern other than 0 and in I_16x16 (7.3.5): this macroblock would lose it. Skipped ones
--- and I_PCM ones send none.
+-- where coded_block_pattern is sent, mb_qp_delta is behind one other than 0 (7.3.5): this macroblock would lose it
 pub record IsEmptied (mb : Mb) : Type 0 where
-  pub kind : is_i_16x16 mb.kind || is_i_pcm mb.kind || is_skip mb.kind ≡ false
+  pub sent : sends_pattern mb.kind ≡ true
   pub luma : normal_luma mb ≡ 0
   pub chroma : mb.pattern.chroma ≡ 0
   pub qp_delta : mb.qp_delta ≢ pos 0

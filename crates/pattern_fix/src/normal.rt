@@ -1,8 +1,7 @@
-ghost use Rattle.std.specs.Prelude.{◌≡◌, ◌<◌, ◌↔◌, ◌||◌, IsErr, IsTrue, OnErr, OnOk, IfOk};
-ghost use Rattle.h264_types.specs.Kind.{is_i_16x16, is_i_pcm, is_skip};
+ghost use Rattle.std.specs.Prelude.{◌≡◌, ◌<◌, ◌↔◌, IsErr, IsTrue, OnErr, OnOk, IfOk};
 ghost use Rattle.pattern_fix.specs.NormalPattern.{all_zero, empty_bit, normal, normal_luma, IsEmptied};
 
-use h264_types::{Mb, MbKind};
+use h264_types::Mb;
 use thiserror::Error;
 
 /// No bit is left of a macroblock's coded_block_pattern, and with it would go its mb_qp_delta, which isn't 0 (7.3.5).
@@ -41,14 +40,7 @@ fn is_emptied(mb: &Mb, luma: u8) -> bool
     requires { luma ≡ normal_luma mb.now }
     ensures { IsTrue result ↔ IsEmptied mb.now }
 {
-    luma == 0 && mb.pattern.chroma == 0 && mb.qp_delta != 0 && !is_without_pattern(mb.kind)
-}
-
-/// Whether a macroblock of this type sends no coded_block_pattern (7.3.5).
-fn is_without_pattern(kind: MbKind) -> bool
-    ensures { result ≡ (is_i_16x16 kind || is_i_pcm kind || is_skip kind) }
-{
-    kind.is_i_16x16() || kind.is_i_pcm() || kind.is_skip()
+    luma == 0 && mb.pattern.chroma == 0 && mb.qp_delta != 0 && mb.kind.sends_pattern()
 }
 
 /// CodedBlockPatternLuma without the bits that stand for no level.

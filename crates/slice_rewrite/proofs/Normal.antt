@@ -17,7 +17,8 @@ use Rattle.h264_types.specs.declared.macroblock.MbKind.TheVariants.{Skip, Intra,
 use Rattle.h264_types.specs.declared.macroblock.Pattern.{Pattern}
 use Rattle.h264_types.specs.declared.slice_shape.SliceShape.{SliceShape}
 use Rattle.cavlc_mb_residual.proofs.ResidualValid.{beyond_normal}
-use Rattle.h264_types.specs.Kind.{is_inter, is_i_16x16, is_i_pcm, is_skip}
+use Rattle.h264_types.specs.Kind.{is_inter}
+use Rattle.h264_types.specs.Sent.{sends_pattern}
 use Rattle.h264_types.specs.Macroblock.{quarter_of, pattern_of}
 use Rattle.h264_types.specs.Slice.{left_number, above_number, field_at, skipped_at, pair_field, inferred_field}
 use Rattle.h264_types.specs.Valid.{is_ref0, luma_bound, IsListSent, IsMacroblock, IsPair, IsSlice, IsWithin}
@@ -121,12 +122,12 @@ written_is_within to shape bound mb sizes is kept within = normal_is_within shap
 
 -- ## The test of an emptied macroblock
 
-four : (x y z w : Bool) → (not x && (y && (z && not w))) ≡ true → (x ≡ false) × (y ≡ true) × (z ≡ true) × (w ≡ false)
-four true y z w e = absurd cc
-four false false z w e = absurd cc
-four false true false w e = absurd cc
-four false true true true e = absurd cc
-four false true true false e = (refl, refl, refl, refl)
+four : (x y z w : Bool) → (x && (y && (z && not w))) ≡ true → (x ≡ true) × (y ≡ true) × (z ≡ true) × (w ≡ false)
+four false y z w e = absurd cc
+four true false z w e = absurd cc
+four true true false w e = absurd cc
+four true true true true e = absurd cc
+four true true true false e = (refl, refl, refl, refl)
 
 other_than_zero : (n : ℤ) → int_eq n (pos 0) ≡ false → n ≢ pos 0
 other_than_zero n e z = grind (arith, Decides-int_eq)
@@ -138,10 +139,10 @@ no_zero n true e ne = absurd (ne (grind (arith, Decides-int_eq)))
 pub emptied_is : (mb : Mb) → (is_emptied mb ≡ true) ↔ IsEmptied mb
 emptied_is mb = (
   λ e.
-      let f = four (is_i_16x16 mb.kind || is_i_pcm mb.kind || is_skip mb.kind) (normal_luma mb == 0) (mb.pattern.chroma == 0) (int_eq mb.qp_delta (pos 0)) e in
-      record { kind = f.0; luma = eqb-true (normal_luma mb) 0 f.1; chroma = eqb-true mb.pattern.chroma 0 f.2; qp_delta = other_than_zero mb.qp_delta f.3 },
+      let f = four (sends_pattern mb.kind) (normal_luma mb == 0) (mb.pattern.chroma == 0) (int_eq mb.qp_delta (pos 0)) e in
+      record { sent = f.0; luma = eqb-true (normal_luma mb) 0 f.1; chroma = eqb-true mb.pattern.chroma 0 f.2; qp_delta = other_than_zero mb.qp_delta f.3 },
   λ is.
-      ap (λ b. not b && ((normal_luma mb == 0) && ((mb.pattern.chroma == 0) && not (int_eq mb.qp_delta (pos 0))))) is.kind
+      ap (λ b. b && ((normal_luma mb == 0) && ((mb.pattern.chroma == 0) && not (int_eq mb.qp_delta (pos 0))))) is.sent
       ∙ ap (λ n. (n == 0) && ((mb.pattern.chroma == 0) && not (int_eq mb.qp_delta (pos 0)))) is.luma
       ∙ ap (λ n. (n == 0) && not (int_eq mb.qp_delta (pos 0))) is.chroma
       ∙ ap not (no_zero mb.qp_delta (int_eq mb.qp_delta (pos 0)) refl is.qp_delta),

@@ -1,9 +1,9 @@
 -- Why a slice can't be written, though it is read.
-use Rattle.std.specs.Prelude.{ℕ, ◌+◌, Bool, false, not, ◌&&◌, ◌||◌, ◌==◌, if◌then◌else◌, pos, List, [], ◌∷◌, Option, Some, None}
+use Rattle.std.specs.Prelude.{ℕ, ◌+◌, Bool, false, not, ◌&&◌, ◌==◌, if◌then◌else◌, pos, List, [], ◌∷◌, Option, Some, None}
 use Rattle.std.specs.Ordering.{int_eq}
 use Rattle.cavlc_mb_residual.specs.MacroblockResidual.{is_beyond_mb}
 use Rattle.cavlc_syntax.specs.SliceText.{prefix_bound}
-use Rattle.h264_types.specs.Kind.{is_i_16x16, is_i_pcm, is_skip}
+use Rattle.h264_types.specs.Sent.{sends_pattern}
 use Rattle.h264_types.specs.declared.fault.Case.{Case}
 use Rattle.h264_types.specs.declared.fault.Case.TheVariants.{Empty, Level}
 use Rattle.h264_types.specs.declared.layer.Layer.{Layer}
@@ -19,7 +19,7 @@ use Rattle.slice_rewrite.specs.Written.{written_mb}
 -- isn't 0 (7.3.5).
 abbrev pub is_emptied : Mb → Bool
 is_emptied mb =
-    not (is_i_16x16 mb.kind || is_i_pcm mb.kind || is_skip mb.kind)
+    sends_pattern mb.kind
     && ((normal_luma mb == 0) && ((mb.pattern.chroma == 0) && not (int_eq mb.qp_delta (pos 0))))
 
 -- as it is written in CAVLC, a level needs a longer level_prefix than the profile has (9.2.2.1)
