@@ -3,7 +3,8 @@ use Rattle.std.proofs.Common.{◌≡◌, ℕ, ◌≤◌, ℤ, pos, Bool, List, �
 use Rattle.bit_texts.specs.Texts.{Reads, IsPrefixFree, IsWhen, when_text}
 use Rattle.bit_texts.proofs.Reading.{IsPrefixFree-when}
 use Rattle.exp_golomb.specs.Code.{se}
-use Rattle.h264_types.specs.Kind.{is_i_nxn, is_i_16x16, sends_pattern}
+use Rattle.h264_types.specs.Sent.{sends_pattern, sends_qp_delta, sends_t8_last}
+use Rattle.h264_types.specs.Kind.{is_i_nxn, is_i_16x16}
 use Rattle.h264_types.specs.Macroblock.{pattern_of}
 use Rattle.h264_types.specs.declared.macroblock.Mb.{Mb}
 use Rattle.h264_types.specs.declared.macroblock.Pattern.{Pattern}
@@ -13,7 +14,7 @@ use Rattle.cavlc_mb_residual.specs.MacroblockResidual.{IsResidual, residual_text
 use Rattle.cavlc_mb_residual.proofs.Chain.{Reads-part, Reads-no_part, IsPrefixFree-part}
 use Rattle.cavlc_mb_residual.proofs.ResidualChain.{Is0}
 use Rattle.cavlc_mb_residual.proofs.ResidualUnique.{IsPrefixFree-residual}
-use Rattle.cavlc_macroblock.specs.MacroblockLayer.{IsFlag, flag_text, sends_t8_last, IsPattern, pattern_text, no_pattern, IsQpDelta, sends_qp_delta, IsCoding, coding_text, with_coding}
+use Rattle.cavlc_macroblock.specs.MacroblockLayer.{IsFlag, flag_text, IsPattern, pattern_text, no_pattern, IsQpDelta, IsCoding, coding_text, with_coding}
 use Rattle.cavlc_macroblock.proofs.ElementLaws.{IsPrefixFree-pattern, IsPrefixFree-flag, IsPrefixFree-qp_delta}
 use Rattle.cavlc_macroblock.proofs.ReadsLaws.{Reads-as}
 
@@ -38,7 +39,7 @@ abbrev pub size_end : Around → Mb → Mb → List Bool
 size_end around old m = when_text (sends_qp_delta old.kind m.pattern) se m.qp_delta ++ delta_end around old m
 
 abbrev pub pattern_end : SliceShape → Around → Mb → Mb → List Bool
-pattern_end shape around old m = when_text (sends_t8_last shape old.kind m) flag_text m.t8 ++ size_end around old m
+pattern_end shape around old m = when_text (sends_t8_last shape old.kind m.subs m.pattern) flag_text m.t8 ++ size_end around old m
 
 -- ---- coded_block_pattern
 
@@ -58,31 +59,31 @@ no_pattern_there shape around bound old b n e f left mid rest none =
 -- ---- transform_size_8x8_flag, which depends on the pattern and on the types of sub-macroblocks
 
 abbrev pub sends_behind : SliceShape → Mb → Pattern → Bool
-sends_behind shape old p = sends_t8_last shape old.kind (record old { pattern = p })
+sends_behind shape old p = sends_t8_last shape old.kind old.subs p
 
-same_sends : (shape : SliceShape) (bound : ℕ) (old : Mb) (p : Pattern) (m : Mb) → C1 shape bound old p m → sends_t8_last shape old.kind m ≡ sends_behind shape old p
+same_sends : (shape : SliceShape) (bound : ℕ) (old : Mb) (p : Pattern) (m : Mb) → C1 shape bound old p m → sends_t8_last shape old.kind m.subs m.pattern ≡ sends_behind shape old p
 same_sends shape bound old p m q =
-    let F : List ℕ → Pattern → Bool = λ s x. sends_t8_last shape old.kind (record old { subs = s; pattern = x }) in
+    let F : List ℕ → Pattern → Bool = sends_t8_last shape old.kind in
     let subs : m.subs ≡ old.subs = ap (λ (x : Mb). x.subs) q.0.1 in
     ap (λ s. F s m.pattern) subs ∙ ap (F old.subs) q.1
 
 flag_in_range : (shape : SliceShape) (bound : ℕ) (old : Mb) (p : Pattern) (m : Mb) → C1 shape bound old p m → IsWhen (sends_behind shape old p) old.t8 IsFlag m.t8
 flag_in_range shape bound old p m q = let P : Bool → Type 0 = λ x. IsWhen x old.t8 IsFlag m.t8 in subst P (same_sends shape bound old p m q) q.0.0.t8
 
-same_flag : (shape : SliceShape) (bound : ℕ) (old : Mb) (p : Pattern) (m : Mb) → C1 shape bound old p m → when_text (sends_t8_last shape old.kind m) flag_text m.t8 ≡ when_text (sends_behind shape old p) flag_text m.t8
+same_flag : (shape : SliceShape) (bound : ℕ) (old : Mb) (p : Pattern) (m : Mb) → C1 shape bound old p m → when_text (sends_t8_last shape old.kind m.subs m.pattern) flag_text m.t8 ≡ when_text (sends_behind shape old p) flag_text m.t8
 same_flag shape bound old p m q = ap (λ x. when_text x flag_text m.t8) (same_sends shape bound old p m q)
 
 pub after_size : (shape : SliceShape) (around : Around) (bound : ℕ) (old : Mb) (p : Pattern) (b : Bool) → b ≡ sends_behind shape old p → (t8 : Bool) (left mid : List Bool) → IsWhen b old.t8 IsFlag t8 × (left ≡ when_text b flag_text t8 ++ mid)
     → (r : Option Mb) (rest : List Bool) → Reads (C2 shape bound old p t8) (size_end around old) mid r rest → Reads (C1 shape bound old p) (pattern_end shape around old) left r rest
 after_size shape around bound old p b e t8 left mid read r rest h =
     let P : Bool → Type 0 = λ x. IsWhen x old.t8 IsFlag t8 × (left ≡ when_text x flag_text t8 ++ mid) in
-    Reads-part (C1 shape bound old p) (IsWhen (sends_behind shape old p) old.t8 IsFlag) (when_text (sends_behind shape old p) flag_text) (λ m. m.t8) (λ m. when_text (sends_t8_last shape old.kind m) flag_text m.t8) (size_end around old)
+    Reads-part (C1 shape bound old p) (IsWhen (sends_behind shape old p) old.t8 IsFlag) (when_text (sends_behind shape old p) flag_text) (λ m. m.t8) (λ m. when_text (sends_t8_last shape old.kind m.subs m.pattern) flag_text m.t8) (size_end around old)
     (IsPrefixFree-when (sends_behind shape old p) old.t8 IsFlag flag_text IsPrefixFree-flag) (flag_in_range shape bound old p) (same_flag shape bound old p) t8 left mid (subst P e read) r rest h
 
 pub no_size : (shape : SliceShape) (around : Around) (bound : ℕ) (old : Mb) (p : Pattern) (b : Bool) → b ≡ sends_behind shape old p → (left mid rest : List Bool) → Reads (IsWhen b old.t8 IsFlag) (when_text b flag_text) left None mid → Reads (C1 shape bound old p) (pattern_end shape around old) left None rest
 no_size shape around bound old p b e left mid rest none =
     let P : Bool → Type 0 = λ x. Reads (IsWhen x old.t8 IsFlag) (when_text x flag_text) left None mid in
-    Reads-no_part (C1 shape bound old p) (IsWhen (sends_behind shape old p) old.t8 IsFlag) (when_text (sends_behind shape old p) flag_text) (λ m. m.t8) (λ m. when_text (sends_t8_last shape old.kind m) flag_text m.t8) (size_end around old)
+    Reads-no_part (C1 shape bound old p) (IsWhen (sends_behind shape old p) old.t8 IsFlag) (when_text (sends_behind shape old p) flag_text) (λ m. m.t8) (λ m. when_text (sends_t8_last shape old.kind m.subs m.pattern) flag_text m.t8) (size_end around old)
     (flag_in_range shape bound old p) (same_flag shape bound old p) left mid rest (subst P e none)
 
 -- ---- mb_qp_delta
@@ -128,7 +129,7 @@ to_coding shape bound old p t8 delta ranges m q =
     let e2 : m.t8 ≡ t8 = ap (λ (x : Mb). x.t8) q.1 in
     let e3 : m.qp_delta ≡ delta = ap (λ (x : Mb). x.qp_delta) q.1 in
     let subs : m.subs ≡ old.subs = ap (λ (x : Mb). x.subs) q.1 in
-    let F : List ℕ → Pattern → Bool → Type 0 = λ s x b. IsWhen (sends_t8_last shape old.kind (record old { subs = s; pattern = x })) old.t8 IsFlag b in
+    let F : List ℕ → Pattern → Bool → Type 0 = λ s x b. IsWhen (sends_t8_last shape old.kind s x) old.t8 IsFlag b in
     let D : Pattern → ℤ → Type 0 = λ x d. IsWhen (sends_qp_delta old.kind x) (pos 0) IsQpDelta d in
     let is : IsCoding shape old bound m = record {
       pattern = subst (IsWhen (sends_pattern old.kind) no_pattern IsPattern) (sym e1) ranges.pattern;
@@ -157,7 +158,7 @@ pub IsPrefixFree-coding : (shape : SliceShape) (around : Around) (bound : ℕ) (
 IsPrefixFree-coding shape around bound old within =
     IsPrefixFree-part (C0 shape bound old) (IsWhen (sends_pattern old.kind) no_pattern IsPattern) (when_text (sends_pattern old.kind) (pattern_text (is_i_nxn old.kind))) (λ m. m.pattern) (λ m. when_text (sends_pattern old.kind) (pattern_text (is_i_nxn old.kind)) m.pattern) (pattern_end shape around old)
     (IsPrefixFree-when (sends_pattern old.kind) no_pattern IsPattern (pattern_text (is_i_nxn old.kind)) (IsPrefixFree-pattern (is_i_nxn old.kind))) (λ m q. q.0.pattern) (λ m q. refl) (λ p _.
-    IsPrefixFree-part (C1 shape bound old p) (IsWhen (sends_behind shape old p) old.t8 IsFlag) (when_text (sends_behind shape old p) flag_text) (λ m. m.t8) (λ m. when_text (sends_t8_last shape old.kind m) flag_text m.t8) (size_end around old)
+    IsPrefixFree-part (C1 shape bound old p) (IsWhen (sends_behind shape old p) old.t8 IsFlag) (when_text (sends_behind shape old p) flag_text) (λ m. m.t8) (λ m. when_text (sends_t8_last shape old.kind m.subs m.pattern) flag_text m.t8) (size_end around old)
     (IsPrefixFree-when (sends_behind shape old p) old.t8 IsFlag flag_text IsPrefixFree-flag) (flag_in_range shape bound old p) (same_flag shape bound old p) (λ t8 _.
     IsPrefixFree-part (C2 shape bound old p t8) (IsWhen (sends_qp_delta old.kind p) (pos 0) IsQpDelta) (when_text (sends_qp_delta old.kind p) se) (λ m. m.qp_delta) (λ m. when_text (sends_qp_delta old.kind m.pattern) se m.qp_delta) (delta_end around old)
     (IsPrefixFree-when (sends_qp_delta old.kind p) (pos 0) IsQpDelta se IsPrefixFree-qp_delta) (delta_in_range shape bound old p t8) (same_delta shape bound old p t8) (λ delta _.
@@ -169,10 +170,10 @@ IsPrefixFree-coding shape around bound old within =
     (ap (λ z. T z v ++ x) (sym (ap pattern_of is.1)) ∙ e ∙ ap (λ z. T z w ++ y) (ap pattern_of other.1)))))
 
 -- the whole text, where what it depends on is known under other names
-pub coding_text-as : (shape : SliceShape) (around : Around) (mb : Mb) (b n f s : Bool) (delta : ℤ) → b ≡ sends_pattern mb.kind → n ≡ is_i_nxn mb.kind → f ≡ sends_t8_last shape mb.kind mb → s ≡ sends_qp_delta mb.kind mb.pattern → delta ≡ mb.qp_delta
+pub coding_text-as : (shape : SliceShape) (around : Around) (mb : Mb) (b n f s : Bool) (delta : ℤ) → b ≡ sends_pattern mb.kind → n ≡ is_i_nxn mb.kind → f ≡ sends_t8_last shape mb.kind mb.subs mb.pattern → s ≡ sends_qp_delta mb.kind mb.pattern → delta ≡ mb.qp_delta
     → when_text b (pattern_text n) mb.pattern ++ (when_text f flag_text mb.t8 ++ (when_text s se delta ++ delta_end around mb mb)) ≡ coding_text shape around mb.kind mb
 coding_text-as shape around mb b n f s delta e1 e2 e3 e4 e5 =
     let T : Bool → Bool → Bool → Bool → ℤ → List Bool = λ b n f s delta. when_text b (pattern_text n) mb.pattern ++ (when_text f flag_text mb.t8 ++ (when_text s se delta ++ delta_end around mb mb)) in
     let k = mb.kind in
     ap (λ x. T x n f s delta) e1 ∙ ap (λ x. T (sends_pattern k) x f s delta) e2 ∙ ap (λ x. T (sends_pattern k) (is_i_nxn k) x s delta) e3
-    ∙ ap (λ x. T (sends_pattern k) (is_i_nxn k) (sends_t8_last shape k mb) x delta) e4 ∙ ap (T (sends_pattern k) (is_i_nxn k) (sends_t8_last shape k mb) (sends_qp_delta k mb.pattern)) e5
+    ∙ ap (λ x. T (sends_pattern k) (is_i_nxn k) (sends_t8_last shape k mb.subs mb.pattern) x delta) e4 ∙ ap (T (sends_pattern k) (is_i_nxn k) (sends_t8_last shape k mb.subs mb.pattern) (sends_qp_delta k mb.pattern)) e5

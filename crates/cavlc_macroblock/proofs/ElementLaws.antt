@@ -14,10 +14,15 @@ use Rattle.code_tables.specs.CodedBlockPattern.{pattern_at, pattern_list}
 use Rattle.code_tables.specs.declared.patterns.TheConstants.{INTRA_CODES, INTER_CODES}
 use Rattle.code_tables.proofs.CodeTables.{all_below-at}
 use Rattle.code_tables.proofs.PatternCodes.{intra_found, inter_found, pattern_small, one_code}
+use Rattle.h264_types.specs.Sent.{mode_count}
 use Rattle.h264_types.specs.declared.macroblock.Pattern.{Pattern}
 use Rattle.cavlc_macroblock.specs.MacroblockLayer.{mode_text, place_in, pattern_text, IsPattern, IsQpDelta, IsFlag, flag_text}
 
 -- ---- prediction modes
+
+pub count_most : (t8 : Bool) → mode_count t8 ≤ 16
+count_most true = omega arith
+count_most false = omega arith
 
 pub mode_text-8 : (mode : ℕ) → mode ≡ 8 → mode_text mode ≡ true ∷ []
 mode_text-8 mode e = rw e refl

@@ -6,13 +6,14 @@ use Rattle.bit_texts.specs.Texts.{Reads, IsPrefixFree, IsWhen, when_text}
 use Rattle.bit_texts.proofs.Reading.{IsPrefixFree-when}
 use Rattle.bit_texts.proofs.Turns.{IsPrefixFree-turns}
 use Rattle.exp_golomb.specs.Code.{ue}
+use Rattle.h264_types.specs.Sent.{mode_count, sends_t8_first}
 use Rattle.h264_types.specs.Kind.{is_intra, is_i_nxn}
 use Rattle.h264_types.specs.declared.macroblock.MbKind.{MbKind}
 use Rattle.h264_types.specs.declared.macroblock.Mb.{Mb}
 use Rattle.h264_types.specs.declared.slice_shape.SliceShape.{SliceShape}
 use Rattle.cavlc_inter.proofs.Codes.{IsPrefixFree-ue}
 use Rattle.cavlc_mb_residual.proofs.Chain.{Reads-part, Reads-no_part, IsPrefixFree-part}
-use Rattle.cavlc_macroblock.specs.MacroblockLayer.{IsFlag, flag_text, sends_t8_first, mode_count, mode_text, AreModes, modes_text, IsIntra, intra_text, with_intra}
+use Rattle.cavlc_macroblock.specs.MacroblockLayer.{IsFlag, flag_text, mode_text, AreModes, modes_text, IsIntra, intra_text, with_intra}
 use Rattle.cavlc_macroblock.proofs.ElementLaws.{IsPrefixFree-mode, IsPrefixFree-flag}
 
 pub IsPrefixFree-modes : (t8 : Bool) → IsPrefixFree (AreModes t8) (modes_text t8)

@@ -3,9 +3,9 @@ use Rattle.std.proofs.Common.{◌≡◌, ℕ, ◌*◌, ◌≤◌, ℤ, Bool, tru
 use Rattle.std.specs.Prelude.{◌&&◌, ◌||◌, not, ◌==◌, if◌then◌else◌, replicate, slice_index}
 use Rattle.bit_texts.specs.Texts.{Reads, IsPrefixFree, IsWhen, when_text}
 use Rattle.exp_golomb.specs.Code.{ue}
+use Rattle.h264_types.specs.Sent.{sends_t8_first, sends_t8_last, takes_t8}
 use Rattle.h264_types.specs.Kind.{is_intra, is_i_nxn}
 use Rattle.h264_types.specs.Macroblock.{no_elements}
-use Rattle.h264_types.specs.Valid.{takes_t8}
 use Rattle.h264_types.specs.declared.macroblock.MbKind.{MbKind}
 use Rattle.h264_types.specs.declared.macroblock.MbKind.TheVariants as kinds
 use Rattle.h264_types.specs.declared.macroblock.MbKind.TheVariants.{Intra}
@@ -15,7 +15,7 @@ use Rattle.cavlc_inter.specs.InterPrediction.{IsInter, inter_text, with_inter, a
 use Rattle.cavlc_inter.proofs.InterChain.{IsPrefixFree-inter}
 use Rattle.cavlc_mb_residual.specs.declared.counts.Around.{Around}
 use Rattle.cavlc_mb_residual.proofs.Chain.{Reads-part, Reads-no_part, IsPrefixFree-part}
-use Rattle.cavlc_macroblock.specs.MacroblockLayer.{HasFewRefs, IsFlag, flag_text, sends_t8_first, sends_t8_last, AreModes, modes_text, IsIntra, intra_text, with_intra, IsPrediction, prediction_text, IsCoding, coding_text, with_coding, IsLayer, layer_text}
+use Rattle.cavlc_macroblock.specs.MacroblockLayer.{IsFlag, flag_text, AreModes, modes_text, IsIntra, intra_text, with_intra, IsPrediction, prediction_text, IsCoding, coding_text, with_coding, IsLayer, layer_text}
 use Rattle.cavlc_macroblock.proofs.ReadsLaws.{Reads-as}
 use Rattle.cavlc_macroblock.proofs.IntraChain.{I0, IsPrefixFree-intra}
 use Rattle.cavlc_macroblock.proofs.IntraInter.{HasNoInter, intra_sends, no_inter, inter_none, no_inter_text, no_refs}
@@ -139,12 +139,12 @@ inter_prediction shape kind ref0 other =
 
 -- ---- no text of a prediction begins another one
 
-few : (shape : SliceShape) (ref0 : Bool) (x : ℕ) → slice_index (frame_refs shape) x ≤ 32 → greatest_of ref0 (frame_refs shape) x ≤ 255
+few : (shape : SliceShape) (ref0 : Bool) (x : ℕ) → slice_index (frame_refs shape) x ≤ 255 → greatest_of ref0 (frame_refs shape) x ≤ 255
 few shape true x h = omega arith
 few shape false x h = omega arith
 
-pub IsPrefixFree-prediction : (shape : SliceShape) (kind : MbKind) (ref0 : Bool) → HasFewRefs shape → IsPrefixFree (IsPrediction shape kind ref0) (prediction_text shape kind ref0)
-IsPrefixFree-prediction shape kind ref0 refs =
+pub IsPrefixFree-prediction : (shape : SliceShape) (kind : MbKind) (ref0 : Bool) → slice_index shape.refs 0 ≤ 255 → slice_index shape.refs 1 ≤ 255 → IsPrefixFree (IsPrediction shape kind ref0) (prediction_text shape kind ref0)
+IsPrefixFree-prediction shape kind ref0 few0 few1 =
     IsPrefixFree-part (IsPrediction shape kind ref0) (I0 shape kind (typed kind ref0)) (intra_text shape kind) (with_intra (typed kind ref0)) (intra_text shape kind) (λ m. inter_text kind ref0 (active_refs shape m) m)
     (IsPrefixFree-intra shape kind (typed kind ref0)) (λ m is. (record { t8 = is.intra.t8; modes = is.intra.modes; chroma_mode = is.intra.chroma_mode }, refl)) (λ m is. refl) (λ a _.
     λ v w x y p q e.
@@ -152,20 +152,20 @@ IsPrefixFree-prediction shape kind ref0 refs =
     let ev = active_in_frame shape v (frame_of shape kind ref0 v p.0) in
     let ew = active_in_frame shape w (frame_of shape kind ref0 w q.0) in
     let In : Mb → List ℕ → Type 0 = λ m t. IsInter kind ref0 t m in
-    IsPrefixFree-inter kind ref0 A a (few shape ref0 0 refs.l0) (few shape ref0 1 refs.l1) v w x y
+    IsPrefixFree-inter kind ref0 A a (few shape ref0 0 few0) (few shape ref0 1 few1) v w x y
     (subst (In v) ev p.0.inter, p.0.absent ∙ ap (λ old. with_inter old v) p.1) (subst (In w) ew q.0.inter, q.0.absent ∙ ap (λ old. with_inter old w) q.1)
     (ap (λ t. inter_text kind ref0 t v ++ x) (sym ev) ∙ e ∙ ap (λ t. inter_text kind ref0 t w ++ y) ew))
 
 -- ---- transform_size_8x8_flag, which I_NxN sends first and others last
 
-flag_first : (mode nxn behind : Bool) (t8 : Bool) → (t8 ≡ true → (mode && (nxn || behind)) ≡ true) → IsWhen (mode && nxn) false IsFlag (nxn && t8)
+flag_first : (mode nxn behind : Bool) (t8 : Bool) → (t8 ≡ true → ((mode && nxn) || (mode && behind)) ≡ true) → IsWhen (mode && nxn) false IsFlag (nxn && t8)
 flag_first true true behind t8 h = tt
 flag_first true false behind t8 h = refl
 flag_first false true behind true h = absurd (let e = h refl in cc)
 flag_first false true behind false h = refl
 flag_first false false behind t8 h = refl
 
-flag_last : (mode nxn behind : Bool) (t8 : Bool) → (t8 ≡ true → (mode && (nxn || behind)) ≡ true) → IsWhen (mode && behind) (nxn && t8) IsFlag t8
+flag_last : (mode nxn behind : Bool) (t8 : Bool) → (t8 ≡ true → ((mode && nxn) || (mode && behind)) ≡ true) → IsWhen (mode && behind) (nxn && t8) IsFlag t8
 flag_last true true true t8 h = tt
 flag_last true true false t8 h = refl
 flag_last true false true t8 h = tt
@@ -175,7 +175,7 @@ flag_last false true behind t8 h = refl
 flag_last false false behind true h = absurd (let e = h refl in cc)
 flag_last false false behind false h = refl
 
-flags : (mode nxn behind first t8 : Bool) → (nxn ≡ true → behind ≡ false) → IsWhen (mode && nxn) false IsFlag first → IsWhen (mode && behind) first IsFlag t8 → (t8 ≡ true → (mode && (nxn || behind)) ≡ true) × ((nxn && t8) ≡ first)
+flags : (mode nxn behind first t8 : Bool) → (nxn ≡ true → behind ≡ false) → IsWhen (mode && nxn) false IsFlag first → IsWhen (mode && behind) first IsFlag t8 → (t8 ≡ true → ((mode && nxn) || (mode && behind)) ≡ true) × ((nxn && t8) ≡ first)
 flags true true true first t8 apart p q = absurd (let e = apart refl in cc)
 flags true true false first t8 apart p q = (λ e. refl, q)
 flags true false true first t8 apart p q = (λ e. refl, sym p)
@@ -207,9 +207,9 @@ kind_of : (shape : SliceShape) (kind : MbKind) (ref0 : Bool) (bound : ℕ) (m : 
 kind_of shape kind ref0 bound m is = ap (λ (x : Mb). x.kind) is.absent
 
 -- transform_size_8x8_flag of a macroblock of this type
-may_be_set : (shape : SliceShape) (kind : MbKind) (ref0 : Bool) (bound : ℕ) (m : Mb) → IsLayer shape kind ref0 false bound m → m.t8 ≡ true → (shape.t8_mode && (is_i_nxn kind || (not (m.pattern.luma == 0) && takes_t8 shape.direct8 kind m.subs))) ≡ true
+may_be_set : (shape : SliceShape) (kind : MbKind) (ref0 : Bool) (bound : ℕ) (m : Mb) → IsLayer shape kind ref0 false bound m → m.t8 ≡ true → (sends_t8_first shape kind || sends_t8_last shape kind m.subs m.pattern) ≡ true
 may_be_set shape kind ref0 bound m is set =
-    let P : MbKind → Type 0 = λ k. (shape.t8_mode && (is_i_nxn k || (not (m.pattern.luma == 0) && takes_t8 shape.direct8 k m.subs))) ≡ true in
+    let P : MbKind → Type 0 = λ k. (sends_t8_first shape k || sends_t8_last shape k m.subs m.pattern) ≡ true in
     subst P (kind_of shape kind ref0 bound m is) (is.t8 set)
 
 pub prediction_of_layer : (shape : SliceShape) (kind : MbKind) (ref0 : Bool) (bound : ℕ) (m : Mb) → IsLayer shape kind ref0 false bound m → IsPrediction shape kind ref0 (predicted kind ref0 m)
@@ -292,13 +292,13 @@ to_layer shape kind ref0 bound old m p q =
 
 -- ---- reading
 
-pub after_prediction : (shape : SliceShape) (around : Around) (kind : MbKind) (ref0 : Bool) (bound : ℕ) → HasFewRefs shape → (old : Mb) (left mid : List Bool) → IsPrediction shape kind ref0 old × (left ≡ prediction_text shape kind ref0 old ++ mid)
+pub after_prediction : (shape : SliceShape) (around : Around) (kind : MbKind) (ref0 : Bool) (bound : ℕ) → slice_index shape.refs 0 ≤ 255 → slice_index shape.refs 1 ≤ 255 → (old : Mb) (left mid : List Bool) → IsPrediction shape kind ref0 old × (left ≡ prediction_text shape kind ref0 old ++ mid)
     → (r : Option Mb) (rest : List Bool) → Reads (C0 shape bound old) (coding_text shape around old.kind) mid r rest → Reads (IsLayer shape kind ref0 false bound) (layer_text shape around kind ref0) left r rest
 unfolding layer_text
-after_prediction shape around kind ref0 bound refs old left mid read r rest h =
+after_prediction shape around kind ref0 bound few0 few1 old left mid read r rest h =
     let e : old.kind ≡ kind = ap (λ (x : Mb). x.kind) read.0.absent in
     Reads-part (IsLayer shape kind ref0 false bound) (IsPrediction shape kind ref0) (prediction_text shape kind ref0) (predicted kind ref0) (prediction_text shape kind ref0) (coding_text shape around kind)
-    (IsPrefixFree-prediction shape kind ref0 refs) (prediction_of_layer shape kind ref0 bound) (prediction_text_of shape kind ref0 bound) old left mid read r rest
+    (IsPrefixFree-prediction shape kind ref0 few0 few1) (prediction_of_layer shape kind ref0 bound) (prediction_text_of shape kind ref0 bound) old left mid read r rest
     (Reads-as (C0 shape bound old) (L1 shape kind ref0 bound old) (coding_text shape around old.kind) (coding_text shape around kind) (λ m. to_layer shape kind ref0 bound old m read.0) (from_layer shape kind ref0 bound old)
     (λ m q. ap (λ k. coding_text shape around k m) e) mid r rest h)
 
@@ -310,11 +310,11 @@ no_prediction shape around kind ref0 bound left mid rest none =
 
 -- ---- no text begins another one
 
-pub IsPrefixFree-layer : (shape : SliceShape) (around : Around) (kind : MbKind) (ref0 : Bool) (bound : ℕ) → HasFewRefs shape → bound ≤ 20 → IsPrefixFree (IsLayer shape kind ref0 false bound) (layer_text shape around kind ref0)
+pub IsPrefixFree-layer : (shape : SliceShape) (around : Around) (kind : MbKind) (ref0 : Bool) (bound : ℕ) → slice_index shape.refs 0 ≤ 255 → slice_index shape.refs 1 ≤ 255 → bound ≤ 20 → IsPrefixFree (IsLayer shape kind ref0 false bound) (layer_text shape around kind ref0)
 unfolding layer_text
-IsPrefixFree-layer shape around kind ref0 bound refs within =
+IsPrefixFree-layer shape around kind ref0 bound few0 few1 within =
     IsPrefixFree-part (IsLayer shape kind ref0 false bound) (IsPrediction shape kind ref0) (prediction_text shape kind ref0) (predicted kind ref0) (prediction_text shape kind ref0) (coding_text shape around kind)
-    (IsPrefixFree-prediction shape kind ref0 refs) (prediction_of_layer shape kind ref0 bound) (prediction_text_of shape kind ref0 bound)
+    (IsPrefixFree-prediction shape kind ref0 few0 few1) (prediction_of_layer shape kind ref0 bound) (prediction_text_of shape kind ref0 bound)
     (λ old is v w x y p q e.
     let k : old.kind ≡ kind = ap (λ (m : Mb). m.kind) is.absent in
     let T : MbKind → Mb → List Bool = λ z m. coding_text shape around z m in
@@ -323,7 +323,7 @@ IsPrefixFree-layer shape around kind ref0 bound refs within =
 
 -- ---- writing
 
-intra_flag : (mode nxn some t8 : Bool) → (t8 ≡ true → (mode && (nxn || (some && false))) ≡ true) → IsWhen (mode && nxn) false IsFlag t8
+intra_flag : (mode nxn some t8 : Bool) → (t8 ≡ true → ((mode && nxn) || (mode && (some && false))) ≡ true) → IsWhen (mode && nxn) false IsFlag t8
 intra_flag true true some t8 h = tt
 intra_flag mode nxn some false h = absent (mode && nxn)
   where
@@ -334,7 +334,7 @@ intra_flag true false true true h = absurd (let e = h refl in cc)
 intra_flag true false false true h = absurd (let e = h refl in cc)
 intra_flag false nxn some true h = absurd (let e = h refl in cc)
 
-intra_t8 : (shape : SliceShape) (kind : MbKind) (m : Mb) → is_intra kind ≡ true → (m.t8 ≡ true → (shape.t8_mode && (is_i_nxn kind || (not (m.pattern.luma == 0) && takes_t8 shape.direct8 kind m.subs))) ≡ true) → IsWhen (sends_t8_first shape kind) false IsFlag m.t8
+intra_t8 : (shape : SliceShape) (kind : MbKind) (m : Mb) → is_intra kind ≡ true → (m.t8 ≡ true → (sends_t8_first shape kind || sends_t8_last shape kind m.subs m.pattern) ≡ true) → IsWhen (sends_t8_first shape kind) false IsFlag m.t8
 intra_t8 shape (Intra n) m e h = intra_flag shape.t8_mode (is_i_nxn (Intra n)) (not (m.pattern.luma == 0)) m.t8 h
 intra_t8 shape kinds.Skip m e h = absurd cc
 intra_t8 shape (kinds.P n) m e h = absurd cc
@@ -347,7 +347,7 @@ pub inter_of_layer : (shape : SliceShape) (kind : MbKind) (ref0 : Bool) (bound :
 inter_of_layer shape kind ref0 bound m is = refs_by_inter kind ref0 shape m (subst (λ a. IsInter kind ref0 a m) (active_in_frame shape m (ap (λ (x : Mb). x.field) is.absent)) is.inter)
 
 pub coding_of_layer : (shape : SliceShape) (bound : ℕ) (m : Mb) → IsLayer shape m.kind m.ref0 false bound m → IsCoding shape m bound m
-coding_of_layer shape bound m is = record { pattern = is.pattern; t8 = kept (sends_t8_last shape m.kind m) m.t8; qp_delta = is.qp_delta; residual = is.residual }
+coding_of_layer shape bound m is = record { pattern = is.pattern; t8 = kept (sends_t8_last shape m.kind m.subs m.pattern) m.t8; qp_delta = is.qp_delta; residual = is.residual }
   where
     kept : (b t8 : Bool) → IsWhen b t8 IsFlag t8
     kept true t8 = tt

@@ -1,6 +1,6 @@
 -- Reading and writing a macroblock, its mb_type first.
 use Rattle.std.proofs.Common.{◌≡◌, ◌⊎◌, inl, inr, ℕ, ◌+◌, ◌<◌, ◌≤◌, Bool, true, false, List, [], ◌∷◌, ◌++◌, length, replicate, Option, Some, None, refl, sym, ap, subst, ◌∙◌, lt-ltb, append_assoc, length-append, arith}
-use Rattle.std.specs.Prelude.{All, if◌then◌else◌}
+use Rattle.std.specs.Prelude.{All, if◌then◌else◌, slice_index}
 use Rattle.std.specs.List.{AllByRecursion}
 use Rattle.std.specs.Option.{option_map}
 use Rattle.std.proofs.lemmas.Bool.{ltb-true}
@@ -26,7 +26,7 @@ use Rattle.h264_types.specs.declared.macroblock.MbKind.TheVariants.{Intra}
 use Rattle.h264_types.specs.declared.slice_shape.SliceShape.{SliceShape}
 use Rattle.cavlc_mb_residual.specs.declared.counts.Around.{Around}
 use Rattle.cavlc_macroblock.specs.Macroblock.{AreSamples, IsIPcm, i_pcm, alignment, pcm_text, behind_type, macroblock_text}
-use Rattle.cavlc_macroblock.specs.MacroblockLayer.{HasFewRefs, IsLayer, layer_text}
+use Rattle.cavlc_macroblock.specs.MacroblockLayer.{IsLayer, layer_text}
 use Rattle.cavlc_macroblock.specs.MbType.{type_of, type_text, IsTypeIn}
 use Rattle.cavlc_macroblock.specs.Reading.{samples_at, alignment_at, pcm_at, IsSent, ReadsMacroblock}
 use Rattle.cavlc_macroblock.proofs.AlignmentLaws.{alignment_inverts}
@@ -135,8 +135,8 @@ begins_type shape around bound c d type mb more typed took is e =
     (both.0, sym both.1 ∙ ap (λ n. behind_type shape around n mb ++ more) same)
 
 -- no text begins another one
-pub IsPrefixFree-macroblock : (shape : SliceShape) (around : Around) (bound pos : ℕ) → HasFewRefs shape → bound ≤ 20 → IsPrefixFree (IsSent shape bound) (macroblock_text shape around pos)
-IsPrefixFree-macroblock shape around bound pos refs within v w x y p q e =
+pub IsPrefixFree-macroblock : (shape : SliceShape) (around : Around) (bound pos : ℕ) → slice_index shape.refs 0 ≤ 255 → slice_index shape.refs 1 ≤ 255 → bound ≤ 20 → IsPrefixFree (IsSent shape bound) (macroblock_text shape around pos)
+IsPrefixFree-macroblock shape around bound pos few0 few1 within v w x y p q e =
     let far : ℕ = pos + length (type_text shape.kind v) in
     let c : Cursor = cursor pos (macroblock_text shape around pos v ++ x) in
     let d : Cursor = cursor far (behind_type shape around far v ++ x) in
@@ -151,7 +151,7 @@ IsPrefixFree-macroblock shape around bound pos refs within v w x y p q e =
     by false is far type same =
         let is' : is_i_pcm w.kind ≡ false = ap (λ (t : Typed). is_i_pcm t.0) type ∙ is in
         let P : Typed → Type 0 = λ t. IsLayer shape t.0 t.1 false bound w in
-        IsPrefixFree-layer shape around v.kind v.ref0 bound refs within v w x y (sent_layer shape bound v is p) (subst P type (sent_layer shape bound w is' q))
+        IsPrefixFree-layer shape around v.kind v.ref0 bound few0 few1 within v w x y (sent_layer shape bound v is p) (subst P type (sent_layer shape bound w is' q))
         (ap (λ t. t ++ x) (sym (behind_layer shape around far v is)) ∙ same ∙ ap (λ t. t ++ y) (behind_layer shape around far w is') ∙ ap (λ (t : Typed). layer_text shape around t.0 t.1 w ++ y) type)
 
 -- ---- reading a macroblock

@@ -5,10 +5,11 @@ use Rattle.std.proofs.lemmas.Int.{ints}
 use Rattle.std.proofs.lemmas.List.{get_or_default}
 use Rattle.std.proofs.lemmas.List.Elements.{All-from_recursion, recursion_from_All}
 use Rattle.bit_texts.specs.Texts.{IsWhen}
-use Rattle.h264_types.specs.Kind.{is_intra, is_i_nxn, is_i_16x16, is_i_pcm, has_sub_macroblocks, sends_pattern}
+use Rattle.h264_types.specs.Sent.{mode_count, sends_pattern, sends_qp_delta, sends_t8}
+use Rattle.h264_types.specs.Kind.{is_intra, is_i_nxn, is_i_16x16, is_i_pcm, has_sub_macroblocks}
 use Rattle.h264_types.specs.Macroblock.{no_elements, pattern_of}
 use Rattle.h264_types.specs.Partition.{partition_of, part_of}
-use Rattle.h264_types.specs.Valid.{sends_t8, sub_bound, list_is_used, mvd_of, IsListSent, IsMacroblock}
+use Rattle.h264_types.specs.Valid.{sub_bound, list_is_used, mvd_of, IsListSent, IsMacroblock}
 use Rattle.h264_types.specs.declared.macroblock.Mb.{Mb}
 use Rattle.h264_types.specs.declared.macroblock.MbKind.{MbKind}
 use Rattle.h264_types.specs.declared.macroblock.Pattern.{Pattern}
@@ -23,7 +24,7 @@ use Rattle.h264_types.proofs.Lists.{two_all}
 use Rattle.cavlc_mb_residual.proofs.ResidualSearching.{Levels, AreAll, all_searched, all_are, residual_decided}
 use Rattle.cavlc_mb_residual.proofs.Searching.{Searches, Found, Decided, AreMany, images_searched, same_searched, conditions_searched, sums_searched, pairs_searched, below_searched, at_most_searched, between_searched, many_searched, same_decided, both_decided, most_decided, numbers_decided, bools_decided, signed_decided, lists_decided, when_decided, turns_decided}
 use Rattle.cavlc_macroblock.specs.Macroblock.{IsIPcm, i_pcm}
-use Rattle.cavlc_macroblock.specs.MacroblockLayer.{IsFlag, mode_count, AreModes, no_pattern, IsPattern, sends_qp_delta, IsQpDelta}
+use Rattle.cavlc_macroblock.specs.MacroblockLayer.{IsFlag, AreModes, no_pattern, IsPattern, IsQpDelta}
 use Rattle.cavlc_macroblock.specs.MbType.{first_intra, type_of, IsTypeIn}
 use Rattle.cavlc_macroblock.specs.Reading.{IsPredicted, IsSent}
 use Rattle.cavlc_macroblock.proofs.Layers.{Typed, typed_of}
@@ -209,7 +210,7 @@ modes_in : (mb : Mb) (sent : Bool) → length mb.modes ≡ 16 → IsWhen sent (r
 modes_in mb sent size is = (
   size,
   recursion_from_All (λ mode. mode ≤ 8) mb.modes (λ k d below.
-      omega (arith, get_or_default mb.modes k d 0 below, from_modes sent mb.t8 mb.modes size is k (omega (arith, below, size)), some_bound (sent && (not mb.t8 || nat_lt k 4)))),
+      omega (arith, get_or_default mb.modes k d 0 below, from_modes sent mb.t8 mb.modes size is k (omega (arith, below, size)), some_bound (sent && nat_lt k (mode_count mb.t8)))),
 )
 
 chroma_mode_in : (sent : Bool) (mode : ℕ) → IsWhen sent 0 (λ m. m ≤ 3) mode → mode ≤ 3

@@ -10,9 +10,10 @@ use Rattle.std.proofs.lemmas.Int.{ints}
 use Rattle.std.proofs.lemmas.Bool.{cases_lt}
 use Rattle.std.proofs.lemmas.Bool.Decides.{nat_tests}
 use Rattle.bit_texts.specs.Texts.{IsWhen}
-use Rattle.h264_types.specs.Kind.{is_intra, is_i_nxn, is_i_16x16, is_i_pcm, is_skip, sends_pattern}
+use Rattle.h264_types.specs.Sent.{mode_count, sends_pattern, sends_qp_delta, sends_t8, takes_t8}
+use Rattle.h264_types.specs.Kind.{is_intra, is_i_nxn, is_i_16x16, is_i_pcm, is_skip}
 use Rattle.h264_types.specs.Macroblock.{no_elements, quarter_of, pattern_of}
-use Rattle.h264_types.specs.Valid.{is_kind_in, is_ref0, takes_t8, sends_t8, mode_bound, chroma_mode_bound, IsWithin, pattern_bound, dc_bound, qp_delta_bound, luma_bound, chroma_dc_bound, chroma_ac_bound, sample_bound, IsQuarterCoded, IsMacroblock}
+use Rattle.h264_types.specs.Valid.{is_kind_in, is_ref0, mode_bound, chroma_mode_bound, IsWithin, pattern_bound, dc_bound, qp_delta_bound, luma_bound, chroma_dc_bound, chroma_ac_bound, sample_bound, IsQuarterCoded, IsMacroblock}
 use Rattle.h264_types.specs.declared.macroblock.Mb.{Mb}
 use Rattle.h264_types.specs.declared.macroblock.MbKind.{MbKind}
 use Rattle.h264_types.specs.declared.macroblock.MbKind.TheVariants as kinds
@@ -29,8 +30,9 @@ use Rattle.cavlc_mb_residual.proofs.BeyondLaws.{each_turn}
 use Rattle.cavlc_mb_residual.proofs.ResidualUnique.{same_two}
 use Rattle.cavlc_mb_residual.proofs.ResidualValid.{HasTransform, all_same, no_numbers, zero_of, no_levels, no_lists, zeros_within, zero_at, turns_of, no_luma, to_residual, from_residual, residual_not_beyond, residual_within}
 use Rattle.cavlc_macroblock.specs.Macroblock.{IsIPcm}
-use Rattle.cavlc_macroblock.specs.MacroblockLayer.{mode_count, AreModes, no_pattern, IsPattern, sends_qp_delta, IsQpDelta, IsLayer}
+use Rattle.cavlc_macroblock.specs.MacroblockLayer.{AreModes, no_pattern, IsPattern, IsQpDelta, IsLayer}
 use Rattle.cavlc_macroblock.specs.Reading.{IsPredicted, IsSent}
+use Rattle.cavlc_macroblock.proofs.ElementLaws.{count_most}
 use Rattle.cavlc_macroblock.proofs.Layers.{named_pcm}
 use Rattle.cavlc_macroblock.proofs.IntraInter.{SendsNoInter, intra_sends, skipped_sends, HasNoInter, no_inter, inter_none, no_refs, no_mvds, no_indices}
 
@@ -40,15 +42,15 @@ unset : (b c : Bool) → (IsTrue b → IsTrue c) → c ≡ false → b ≡ false
 unset false c h e = refl
 unset true c h e = let t : c ≡ true = h refl in absurd (cc (t, e))
 
-neither : (mode some : Bool) → (mode && (false || (some && false))) ≡ false
+neither : (mode some : Bool) → ((mode && false) || (mode && (some && false))) ≡ false
 neither true true = refl
 neither true false = refl
 neither false some = refl
 
 -- I_16x16 has no 8x8 transform
-not_16x16 : (mode some direct8 : Bool) (kind : MbKind) (subs : List ℕ) → (mode && (is_i_nxn kind || (some && takes_t8 direct8 kind subs))) ≡ true → is_i_16x16 kind ≡ false
+not_16x16 : (mode some direct8 : Bool) (kind : MbKind) (subs : List ℕ) → ((mode && is_i_nxn kind) || (mode && (some && takes_t8 direct8 kind subs))) ≡ true → is_i_16x16 kind ≡ false
 not_16x16 mode some direct8 (Intra zero) subs e = refl
-not_16x16 mode some direct8 (Intra (suc n)) subs e = absurd (let other : is_i_nxn (Intra (suc n)) ≡ false = grind (arith, nat_tests) in let bad : true ≡ false = sym e ∙ ap (λ b. mode && (b || (some && false))) other ∙ neither mode some in cc)
+not_16x16 mode some direct8 (Intra (suc n)) subs e = absurd (let other : is_i_nxn (Intra (suc n)) ≡ false = grind (arith, nat_tests) in let bad : true ≡ false = sym e ∙ ap (λ b. (mode && b) || (mode && (some && false))) other ∙ neither mode some in cc)
 not_16x16 mode some direct8 Skip subs e = refl
 not_16x16 mode some direct8 (kinds.P n) subs e = refl
 not_16x16 mode some direct8 (kinds.B n) subs e = refl
@@ -106,12 +108,11 @@ pub some_bound : (b : Bool) → (if b then 8 else 0) ≤ 8
 some_bound true = omega arith
 some_bound false = omega arith
 
-to_modes : (sent t8 : Bool) (modes : List ℕ) → length modes ≡ 16 → ((k : ℕ) → k < 16 → slice_index modes k ≤ (if sent && (not t8 || nat_lt k 4) then 8 else 0)) → IsWhen sent (replicate 16 0) (AreModes t8) modes
-to_modes true true modes e h = modes_from true modes e (omega arith) (λ k lt. omega (arith, h k (omega (arith, lt)), some_bound (nat_lt k 4))) (λ k ge lt. last k ge (h k lt))
+to_modes : (sent t8 : Bool) (modes : List ℕ) → length modes ≡ 16 → ((k : ℕ) → k < 16 → slice_index modes k ≤ (if sent && nat_lt k (mode_count t8) then 8 else 0)) → IsWhen sent (replicate 16 0) (AreModes t8) modes
+to_modes true t8 modes e h = modes_from t8 modes e (count_most t8) (λ k lt. omega (arith, h k (omega (arith, lt, count_most t8)), some_bound (nat_lt k (mode_count t8)))) (λ k ge lt. last k ge (h k lt))
   where
-    last : (k : ℕ) → 4 ≤ k → slice_index modes k ≤ (if nat_lt k 4 then 8 else 0) → slice_index modes k ≤ 0
-    last k ge le = let no : nat_lt k 4 ≡ false = grind (arith, nat_tests) in let P : Bool → Type 0 = λ b. slice_index modes k ≤ (if b then 8 else 0) in subst P no le
-to_modes true false modes e h = modes_from false modes e (omega arith) (λ k lt. h k lt) (λ k ge lt. absurd (omega arith))
+    last : (k : ℕ) → mode_count t8 ≤ k → slice_index modes k ≤ (if nat_lt k (mode_count t8) then 8 else 0) → slice_index modes k ≤ 0
+    last k ge le = let no : nat_lt k (mode_count t8) ≡ false = grind (arith, nat_tests) in let P : Bool → Type 0 = λ b. slice_index modes k ≤ (if b then 8 else 0) in subst P no le
 to_modes false t8 modes e h = no_numbers 16 modes e h
 
 front_mode : (t8 : Bool) (modes : List ℕ) → length modes ≡ 16 → mode_count t8 ≤ 16 → AreModes t8 modes → (k : ℕ) → k < mode_count t8 → slice_index modes k ≤ 8
@@ -120,15 +121,15 @@ front_mode t8 modes e most are k lt =
     let small = All-from_recursion (λ mode. mode ≤ 8) (take n modes) (each_turn (λ (_ : ℕ) mode. mode ≤ 8) (λ s _. s) (λ mode. mode ≤ 8) (λ s x small. small) n 0 (take n modes) are.sent) k 0 (omega (arith, lt, length-take-le n modes (omega (arith, e)))) in
     omega (arith, small, get_or-take n modes k 0 lt)
 
-pub from_modes : (sent t8 : Bool) (modes : List ℕ) → length modes ≡ 16 → IsWhen sent (replicate 16 0) (AreModes t8) modes → (k : ℕ) → k < 16 → slice_index modes k ≤ (if sent && (not t8 || nat_lt k 4) then 8 else 0)
-from_modes true true modes e are k h = elim (cases_lt k 4) [
-  | inl lt ↦ (let yes : nat_lt k 4 ≡ true = grind (arith, nat_tests) in
-      let P : Bool → Type 0 = λ b. slice_index modes k ≤ (if b then 8 else 0) in subst P (sym yes) (front_mode true modes e (omega arith) are k lt))
-  | inr ge ↦ (let place : 4 + (k - 4) ≡ k = omega arith in
-      let none : slice_index modes k ≡ 0 = ap (λ j. slice_index modes j) (sym place) ∙ sym (get_or-drop 4 modes (k - 4) 0) ∙ ap (λ xs. slice_index xs (k - 4)) are.others ∙ zero_at 12 (k - 4) in
+pub from_modes : (sent t8 : Bool) (modes : List ℕ) → length modes ≡ 16 → IsWhen sent (replicate 16 0) (AreModes t8) modes → (k : ℕ) → k < 16 → slice_index modes k ≤ (if sent && nat_lt k (mode_count t8) then 8 else 0)
+from_modes true t8 modes e are k h = elim (cases_lt k (mode_count t8)) [
+  | inl lt ↦ (let yes : nat_lt k (mode_count t8) ≡ true = grind (arith, nat_tests) in
+      let P : Bool → Type 0 = λ b. slice_index modes k ≤ (if b then 8 else 0) in subst P (sym yes) (front_mode t8 modes e (count_most t8) are k lt))
+  | inr ge ↦ (let n = mode_count t8 in
+      let place : n + (k - n) ≡ k = omega arith in
+      let none : slice_index modes k ≡ 0 = ap (λ j. slice_index modes j) (sym place) ∙ sym (get_or-drop n modes (k - n) 0) ∙ ap (λ xs. slice_index xs (k - n)) are.others ∙ zero_at (16 - n) (k - n) in
       rw none (omega arith))
 ]
-from_modes true false modes e are k h = front_mode false modes e (omega arith) are k h
 from_modes false t8 modes e are k h = rw (are, zero_at 16 k) (omega arith)
 
 to_chroma_mode : (kind : MbKind) (mode : ℕ) → is_i_pcm kind ≡ false → mode ≤ chroma_mode_bound kind → IsWhen (is_intra kind) 0 (λ m. m ≤ 3) mode
@@ -152,8 +153,9 @@ no_samples mb e sizes h = all_same 0 384 mb.pcm sizes.pcm (λ k d below. omega (
 
 -- ---- macroblocks of which the residual is sent
 
-valid_layer : (shape : SliceShape) (bound : ℕ) (mb : Mb) → shape.mbaff ≡ false → is_i_pcm mb.kind ≡ false → HasSizes mb → is_beyond_mb bound mb ≡ false → IsMacroblock shape mb → IsLayer shape mb.kind mb.ref0 false bound mb
-valid_layer shape bound mb frame other sizes none is =
+valid_layer : (shape : SliceShape) (bound : ℕ) (mb : Mb) → shape.mbaff ≡ false → is_i_pcm mb.kind ≡ false → is_beyond_mb bound mb ≡ false → IsMacroblock shape mb → IsLayer shape mb.kind mb.ref0 false bound mb
+valid_layer shape bound mb frame other none is =
+    let sizes = is.sizes in
     let field : mb.field ≡ false = unset mb.field shape.mbaff is.typed.field frame in
     let pcm : mb.pcm ≡ replicate 384 0 = no_samples mb (ap (λ b. if b then 255 else 0) other) sizes is.coded.pcm in
     record {
@@ -185,6 +187,7 @@ layer_valid shape bound mb kind only other is =
     let delta = from_delta (sends_qp_delta mb.kind mb.pattern) mb.qp_delta is.qp_delta in
     let residual = from_residual mb bound (has_transform shape mb is.t8) is.residual in
     record {
+      sizes = is.residual.sizes;
       typed = record { kind = kind; ref0 = ref0_is shape bound mb is only; field = λ set. absurd (cc (field, set)); t8 = is.t8 };
       intra = record {
         modes = from_modes (is_i_nxn mb.kind) mb.t8 mb.modes is.residual.sizes.modes is.modes;
@@ -280,8 +283,9 @@ ac_none mb x h sizes none within =
     let size = All-from_recursion (λ (blocks : List (List ℤ)). (length blocks ≡ 4) × AllByRecursion (λ block. length block ≡ 15) blocks) mb.chroma_ac sizes.chroma_ac.1 x [] (omega (arith, sizes.chroma_ac.0)) in
     lists_none 4 15 (chroma_ac_bound mb) (ac_of x mb) none size.0 size.1 within
 
-plain : (shape : SliceShape) (mb : Mb) → shape.mbaff ≡ false → IsBare mb.kind → HasSizes mb → IsMacroblock shape mb → IsPlain mb
-plain shape mb frame bare sizes is =
+plain : (shape : SliceShape) (mb : Mb) → shape.mbaff ≡ false → IsBare mb.kind → IsMacroblock shape mb → IsPlain mb
+plain shape mb frame bare is =
+    let sizes = is.sizes in
     let bounds : Bounds shape mb = bounds_of shape mb bare in
     let pattern : mb.pattern ≡ no_pattern = same_pattern mb.pattern (omega (arith, is.coded.pattern.luma, bounds.pattern 15)) (omega (arith, is.coded.pattern.chroma, bounds.pattern 2)) in
     let none : pattern_of mb ≡ no_pattern = bounds.same_pattern ∙ pattern in
@@ -338,22 +342,6 @@ zero_quarter kind samples q h =
       last = λ k lt. rw (none, get_or-replicate 64 (16 * k + 15) (pos 0) (pos 0) (omega arith)) (omega arith);
     }
 
-bare_valid : (shape : SliceShape) (kind : MbKind) (samples : List ℕ) → IsBare kind → is_kind_in shape.kind kind ≡ true → All (λ sample. sample ≤ sample_bound kind) samples → IsMacroblock shape (record (no_elements kind) { pcm = samples })
-bare_valid shape kind samples bare in_slice small =
-    let mb : Mb = record (no_elements kind) { pcm = samples } in
-    record {
-      typed = record { kind = in_slice; ref0 = λ h. absurd cc; field = λ h. absurd cc; t8 = λ h. absurd cc };
-      intra = record { modes = λ k h. no_more 16 k _; chroma_mode = omega arith };
-      inter = from_inter shape mb (inter_none kind false (active_refs shape mb) mb (bare_inter kind bare) (record { subs = refl; refs = refl; mvd = refl }));
-      coded = record {
-        pattern = record { luma = omega arith; chroma = omega arith };
-        qp_delta = record { magnitude = omega arith; greatest = record { le = tt } };
-        luma = record { dc = zeros_within _ 16; quarters = λ q h. zero_quarter kind samples q h };
-        chroma = record { dc = zero_lists_within _ 2 4; cb_ac = zero_lists_within _ 4 15; cr_ac = zero_lists_within _ 4 15 };
-        pcm = small;
-      };
-    }
-
 bare_sizes : (kind : MbKind) (samples : List ℕ) → length samples ≡ 384 → HasSizes (record (no_elements kind) { pcm = samples })
 bare_sizes kind samples count = record {
   modes = refl;
@@ -371,20 +359,37 @@ bare_sizes kind samples count = record {
     each Is x h zero = tt
     each Is x h (suc n) = (h, each Is x h n)
 
+bare_valid : (shape : SliceShape) (kind : MbKind) (samples : List ℕ) → IsBare kind → is_kind_in shape.kind kind ≡ true → length samples ≡ 384 → All (λ sample. sample ≤ sample_bound kind) samples → IsMacroblock shape (record (no_elements kind) { pcm = samples })
+bare_valid shape kind samples bare in_slice count small =
+    let mb : Mb = record (no_elements kind) { pcm = samples } in
+    record {
+      sizes = bare_sizes kind samples count;
+      typed = record { kind = in_slice; ref0 = λ h. absurd cc; field = λ h. absurd cc; t8 = λ h. absurd cc };
+      intra = record { modes = λ k h. no_more 16 k _; chroma_mode = omega arith };
+      inter = from_inter shape mb (inter_none kind false (active_refs shape mb) mb (bare_inter kind bare) (record { subs = refl; refs = refl; mvd = refl }));
+      coded = record {
+        pattern = record { luma = omega arith; chroma = omega arith };
+        qp_delta = record { magnitude = omega arith; greatest = record { le = tt } };
+        luma = record { dc = zeros_within _ 16; quarters = λ q h. zero_quarter kind samples q h };
+        chroma = record { dc = zero_lists_within _ 2 4; cb_ac = zero_lists_within _ 4 15; cr_ac = zero_lists_within _ 4 15 };
+        pcm = small;
+      };
+    }
+
 bare_not_beyond : (bound : ℕ) (kind : MbKind) (samples : List ℕ) → is_beyond_mb bound (record (no_elements kind) { pcm = samples }) ≡ false
 unfolding blocks.sixteen
 bare_not_beyond bound kind samples = refl
 
 -- ---- both ways
 
-valid_i_pcm : (shape : SliceShape) (mb : Mb) → shape.mbaff ≡ false → mb.kind ≡ Intra 25 → HasSizes mb → IsMacroblock shape mb → IsIPcm mb
-valid_i_pcm shape mb frame kind sizes is = record {
-  elements = plain_same mb (plain shape mb frame (inl kind) sizes is) ∙ ap (λ k. record (no_elements k) { pcm = mb.pcm }) kind;
-  samples = record { count = sizes.pcm; bytes = λ k d below. omega (arith, is.coded.pcm k d below, ap sample_bound kind) };
+valid_i_pcm : (shape : SliceShape) (mb : Mb) → shape.mbaff ≡ false → mb.kind ≡ Intra 25 → IsMacroblock shape mb → IsIPcm mb
+valid_i_pcm shape mb frame kind is = record {
+  elements = plain_same mb (plain shape mb frame (inl kind) is) ∙ ap (λ k. record (no_elements k) { pcm = mb.pcm }) kind;
+  samples = record { count = is.sizes.pcm; bytes = λ k d below. omega (arith, is.coded.pcm k d below, ap sample_bound kind) };
 }
 
-pub valid_sent : (shape : SliceShape) (bound : ℕ) (mb : Mb) → shape.mbaff ≡ false → is_skip mb.kind ≡ false → HasSizes mb → is_beyond_mb bound mb ≡ false → IsMacroblock shape mb → IsSent shape bound mb
-valid_sent shape bound mb frame sent sizes none is = record {
+pub valid_sent : (shape : SliceShape) (bound : ℕ) (mb : Mb) → shape.mbaff ≡ false → is_skip mb.kind ≡ false → is_beyond_mb bound mb ≡ false → IsMacroblock shape mb → IsSent shape bound mb
+valid_sent shape bound mb frame sent none is = record {
   kind = is.typed.kind;
   sent = sent;
   ref0 = λ set. ref0_kind mb mb.kind (is.typed.ref0 set);
@@ -392,8 +397,8 @@ valid_sent shape bound mb frame sent sizes none is = record {
 }
   where
     by : (b : Bool) → is_i_pcm mb.kind ≡ b → IsIPcm mb ⊎ IsPredicted shape bound mb
-    by true e = inl (valid_i_pcm shape mb frame (named_pcm mb.kind e) sizes is)
-    by false e = inr (e, valid_layer shape bound mb frame e sizes none is)
+    by true e = inl (valid_i_pcm shape mb frame (named_pcm mb.kind e) is)
+    by false e = inr (e, valid_layer shape bound mb frame e none is)
 
 pub sent_valid : (shape : SliceShape) (bound : ℕ) (mb : Mb) → IsSent shape bound mb → IsMacroblock shape mb
 sent_valid shape bound mb is = by is.elements
@@ -401,7 +406,7 @@ sent_valid shape bound mb is = by is.elements
     by : IsIPcm mb ⊎ IsPredicted shape bound mb → IsMacroblock shape mb
     by (inl pcm) =
         let kind : mb.kind ≡ Intra 25 = ap (λ (m : Mb). m.kind) pcm.elements in
-        subst (λ (m : Mb). IsMacroblock shape m) (sym pcm.elements) (bare_valid shape (Intra 25) mb.pcm (inl refl) (subst (λ k. is_kind_in shape.kind k ≡ true) kind is.kind) pcm.samples.bytes)
+        subst (λ (m : Mb). IsMacroblock shape m) (sym pcm.elements) (bare_valid shape (Intra 25) mb.pcm (inl refl) (subst (λ k. is_kind_in shape.kind k ≡ true) kind is.kind) pcm.samples.count pcm.samples.bytes)
     by (inr other) = layer_valid shape bound mb is.kind is.ref0 other.0 other.1
 
 pub sent_sizes : (shape : SliceShape) (bound : ℕ) (mb : Mb) → IsSent shape bound mb → HasSizes mb × (is_beyond_mb bound mb ≡ false)
@@ -416,14 +421,14 @@ sent_ref0 shape bound mb is set = (sent_valid shape bound mb is).typed.ref0 set
 
 -- ---- skipped macroblocks
 
-pub valid_skipped : (shape : SliceShape) (mb : Mb) → shape.mbaff ≡ false → mb.kind ≡ Skip → HasSizes mb → IsMacroblock shape mb → (mb ≡ no_elements Skip) × (is_kind_in shape.kind Skip ≡ true)
-valid_skipped shape mb frame kind sizes is =
-    let pcm : mb.pcm ≡ replicate 384 0 = no_samples mb (ap sample_bound kind) sizes is.coded.pcm in
-    (plain_same mb (plain shape mb frame (inr kind) sizes is) ∙ ap (λ k. record (no_elements k) { pcm = mb.pcm }) kind ∙ ap (λ x. record (no_elements Skip) { pcm = x }) pcm, subst (λ k. is_kind_in shape.kind k ≡ true) kind is.typed.kind)
+pub valid_skipped : (shape : SliceShape) (mb : Mb) → shape.mbaff ≡ false → mb.kind ≡ Skip → IsMacroblock shape mb → (mb ≡ no_elements Skip) × (is_kind_in shape.kind Skip ≡ true)
+valid_skipped shape mb frame kind is =
+    let pcm : mb.pcm ≡ replicate 384 0 = no_samples mb (ap sample_bound kind) is.sizes is.coded.pcm in
+    (plain_same mb (plain shape mb frame (inr kind) is) ∙ ap (λ k. record (no_elements k) { pcm = mb.pcm }) kind ∙ ap (λ x. record (no_elements Skip) { pcm = x }) pcm, subst (λ k. is_kind_in shape.kind k ≡ true) kind is.typed.kind)
 
 pub skipped_valid : (shape : SliceShape) (mb : Mb) → mb ≡ no_elements Skip → is_kind_in shape.kind Skip ≡ true → IsMacroblock shape mb
 skipped_valid shape mb same in_slice =
-    subst (λ (m : Mb). IsMacroblock shape m) (sym same) (bare_valid shape Skip (replicate 384 0) (inr refl) in_slice (All-replicate (λ sample. sample ≤ 0) 384 0 (omega arith)))
+    subst (λ (m : Mb). IsMacroblock shape m) (sym same) (bare_valid shape Skip (replicate 384 0) (inr refl) in_slice refl (All-replicate (λ sample. sample ≤ 0) 384 0 (omega arith)))
 
 pub skipped_levels : (bound : ℕ) → HasSizes (no_elements Skip) × (is_beyond_mb bound (no_elements Skip) ≡ false)
 skipped_levels bound = (bare_sizes Skip (replicate 384 0) refl, bare_not_beyond bound Skip (replicate 384 0))

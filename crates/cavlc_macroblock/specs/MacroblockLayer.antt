@@ -1,12 +1,12 @@
 -- A macroblock behind its mb_type, of every type but I_PCM (ITU-T H.264, 7.3.5, 7.3.5.1 to 7.3.5.3).
-use Rattle.std.specs.Prelude.{◌≡◌, ℕ, suc, ◌+◌, ◌-◌, ◌*◌, ◌<◌, ◌≤◌, ◌==◌, ◌&&◌, ◌||◌, not, IsTrue, ℤ, pos, negsuc, ◌≤ℤ◌, Bool, true, false, if◌then◌else◌, List, [], ◌∷◌, ◌++◌, replicate, slice_index, take, drop}
+use Rattle.std.specs.Prelude.{◌≡◌, ℕ, suc, ◌+◌, ◌-◌, ◌*◌, ◌<◌, ◌≤◌, ◌==◌, IsTrue, ℤ, pos, negsuc, ◌≤ℤ◌, Bool, true, false, if◌then◌else◌, List, [], ◌∷◌, ◌++◌, replicate, take, drop}
 use Rattle.bit_texts.specs.Bits.{binary}
 use Rattle.bit_texts.specs.Texts.{IsWhen, when_text, turns_text, AreTurns}
 use Rattle.exp_golomb.specs.Code.{ue, se}
 use Rattle.code_tables.specs.CodedBlockPattern.{pattern_list}
-use Rattle.h264_types.specs.Kind.{is_intra, is_i_nxn, is_i_16x16, sends_pattern}
+use Rattle.h264_types.specs.Kind.{is_intra, is_i_nxn, is_i_16x16}
 use Rattle.h264_types.specs.Macroblock.{no_elements, pattern_of}
-use Rattle.h264_types.specs.Valid.{takes_t8, sends_t8}
+use Rattle.h264_types.specs.Sent.{sends_t8, sends_t8_first, sends_t8_last, mode_count, sends_pattern, sends_qp_delta}
 use Rattle.h264_types.specs.declared.macroblock.MbKind.{MbKind}
 use Rattle.h264_types.specs.declared.macroblock.Mb.{Mb}
 use Rattle.h264_types.specs.declared.macroblock.Pattern.{Pattern}
@@ -14,11 +14,6 @@ use Rattle.h264_types.specs.declared.slice_shape.SliceShape.{SliceShape}
 use Rattle.cavlc_inter.specs.InterPrediction.{inter_text, IsInter, active_refs}
 use Rattle.cavlc_mb_residual.specs.declared.counts.Around.{Around}
 use Rattle.cavlc_mb_residual.specs.MacroblockResidual.{residual_text, IsResidual}
-
--- what a slice may have: at most 32 active references of each list (7.4.3)
-pub record HasFewRefs (shape : SliceShape) : Type 0 where
-  pub l0 : slice_index shape.refs 0 ≤ 32
-  pub l1 : slice_index shape.refs 1 ≤ 32
 
 -- ---- transform_size_8x8_flag: before the modes of I_NxN, and of P and B macroblocks behind coded_block_pattern
 
@@ -28,17 +23,7 @@ IsFlag flag = Unit {0}
 abbrev pub flag_text : Bool → List Bool
 flag_text flag = flag ∷ []
 
-abbrev pub sends_t8_first : SliceShape → MbKind → Bool
-sends_t8_first shape kind = shape.t8_mode && is_i_nxn kind
-
-abbrev pub sends_t8_last : SliceShape → MbKind → Mb → Bool
-sends_t8_last shape kind mb = shape.t8_mode && (not (mb.pattern.luma == 0) && takes_t8 shape.direct8 kind mb.subs)
-
 -- ---- prediction of I_NxN
-
--- one mode for each 4x4 block, or for each 8x8 block
-abbrev pub mode_count : Bool → ℕ
-mode_count t8 = if t8 then 4 else 16
 
 -- prev_intra4x4_pred_mode_flag, and rem_intra4x4_pred_mode where it is 0; mode 8 stands for a flag of 1
 abbrev pub mode_text : ℕ → List Bool
@@ -68,10 +53,6 @@ IsPattern pattern = (pattern.luma < 16) × (pattern.chroma < 3)
 
 abbrev pub no_pattern : Pattern
 no_pattern = record { luma = 0; chroma = 0 }
-
--- mb_qp_delta stands in I_16x16, and where the pattern isn't 0
-abbrev pub sends_qp_delta : MbKind → Pattern → Bool
-sends_qp_delta kind pattern = is_i_16x16 kind || not ((pattern.luma == 0) && (pattern.chroma == 0))
 
 abbrev pub IsQpDelta : ℤ → Type 0
 IsQpDelta delta = (negsuc 25 ≤ℤ delta) × (delta ≤ℤ pos 25)
@@ -115,14 +96,14 @@ pub record IsPrediction (shape : SliceShape) (kind : MbKind) (ref0 : Bool) (mb :
 abbrev pub coding_text : SliceShape → Around → MbKind → Mb → List Bool
 coding_text shape around kind mb =
     when_text (sends_pattern kind) (pattern_text (is_i_nxn kind)) mb.pattern
-    ++ (when_text (sends_t8_last shape kind mb) flag_text mb.t8
+    ++ (when_text (sends_t8_last shape kind mb.subs mb.pattern) flag_text mb.t8
     ++ (when_text (sends_qp_delta kind mb.pattern) se mb.qp_delta
     ++ residual_text around (is_i_16x16 kind) (pattern_of mb) mb))
 
 -- behind the type and the prediction of `before`
 pub record IsCoding (shape : SliceShape) (before : Mb) (bound : ℕ) (mb : Mb) : Type 0 where
   pub pattern : IsWhen (sends_pattern before.kind) no_pattern IsPattern mb.pattern
-  pub t8 : IsWhen (sends_t8_last shape before.kind mb) before.t8 IsFlag mb.t8
+  pub t8 : IsWhen (sends_t8_last shape before.kind mb.subs mb.pattern) before.t8 IsFlag mb.t8
   pub qp_delta : IsWhen (sends_qp_delta before.kind mb.pattern) (pos 0) IsQpDelta mb.qp_delta
   pub residual : IsResidual (is_i_16x16 before.kind) (pattern_of mb) bound mb
 

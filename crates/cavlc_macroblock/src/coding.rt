@@ -5,10 +5,8 @@ ghost use Rattle.bit_texts.specs.Texts.{Reads, Appends};
 ghost use Rattle.cavlc_mb_residual.specs.Counts.{IsAround};
 ghost use Rattle.cavlc_macroblock.specs.MacroblockLayer as layer;
 
-use crate::pattern::{
-    read_pattern_if, read_qp_delta_if, sends_qp_delta, write_pattern_if, write_qp_delta_if,
-};
-use crate::transform_size::{read_t8_if, sends_t8_last, write_t8_if};
+use crate::pattern::{read_pattern_if, read_qp_delta_if, write_pattern_if, write_qp_delta_if};
+use crate::transform_size::{read_t8_if, write_t8_if};
 use cavlc_mb_residual::{Around, read_residual, write_residual};
 use exp_golomb::{BitSink, BitSource};
 use h264_types::{Mb, SliceShape};
@@ -28,8 +26,8 @@ pub fn read_coding<B: BitSource>(
     ensures kept { B.taken bits.new ++ B.left bits.new ≡ B.taken bits.old ++ B.left bits.old }
 {
     mb.pattern = read_pattern_if(bits, mb.kind.sends_pattern(), mb.kind.is_i_nxn())?;
-    mb.t8 = read_t8_if(bits, sends_t8_last(shape, mb), mb.t8)?;
-    mb.qp_delta = read_qp_delta_if(bits, sends_qp_delta(mb.kind, mb.pattern))?;
+    mb.t8 = read_t8_if(bits, shape.sends_t8_last(mb), mb.t8)?;
+    mb.qp_delta = read_qp_delta_if(bits, mb.kind.sends_qp_delta(mb.pattern))?;
     read_residual(bits, around, bound, mb)
 }
 
@@ -50,7 +48,7 @@ pub fn write_coding<B: BitSink>(
         mb.kind.is_i_nxn(),
         mb.pattern,
     )?;
-    write_t8_if(bits, sends_t8_last(shape, mb), mb.t8)?;
-    write_qp_delta_if(bits, sends_qp_delta(mb.kind, mb.pattern), mb.qp_delta)?;
+    write_t8_if(bits, shape.sends_t8_last(mb), mb.t8)?;
+    write_qp_delta_if(bits, mb.kind.sends_qp_delta(mb.pattern), mb.qp_delta)?;
     write_residual(bits, around, mb)
 }

@@ -1,5 +1,5 @@
 //! A macroblock behind its mb_type, of every type but I_PCM (ITU-T H.264, 7.3.5).
-ghost use Rattle.std.specs.Prelude.{◌≡◌, ◌≤◌, ◌++◌, false, option_map};
+ghost use Rattle.std.specs.Prelude.{◌≡◌, ◌≤◌, ◌++◌, false, option_map, slice_index};
 ghost use Rattle.bit_texts.specs.Texts.{Reads, Appends};
 ghost use Rattle.cavlc_mb_residual.specs.Counts.{IsAround};
 ghost use Rattle.cavlc_macroblock.specs.MacroblockLayer as layer;
@@ -32,6 +32,11 @@ fn read_prediction<B: BitSource>(
     }
 }
 
+/// The numbers of active references are bytes. It does nothing.
+fn are_bytes(refs: [u8; 2])
+    ensures { (slice_index refs 0 ≤ 255) × (slice_index refs 1 ≤ 255) }
+{}
+
 /// Reads a macroblock of this type behind its mb_type, outside MBAFF, and fills the macroblock that is lent with it. None
 /// exactly where no macroblock of this type in range has a text, with no level_prefix above `bound`, that begins the bits
 /// left; what the macroblock then holds isn't said.
@@ -44,12 +49,12 @@ pub fn read_layer<B: BitSource>(
     ref0: bool,
     mb: &mut Mb,
 ) -> Option<()>
-    requires refs { layer.HasFewRefs shape.now }
     requires around { IsAround around.now }
     requires within { bound ≤ 20 }
     ensures reads { Reads (layer.IsLayer shape.now kind ref0 false bound) (layer.layer_text shape.now around.now kind ref0) (B.left bits.old) (option_map (λ _. mb.new) result) (B.left bits.new) }
     ensures kept { B.taken bits.new ++ B.left bits.new ≡ B.taken bits.old ++ B.left bits.old }
 {
+    are_bytes(shape.refs);
     read_prediction(bits, shape, kind, ref0, mb)?;
     read_coding(bits, shape, around, bound, mb)
 }

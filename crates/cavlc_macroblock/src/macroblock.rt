@@ -1,11 +1,10 @@
 //! One macroblock.
-ghost use Rattle.std.specs.Prelude.{◌≡◌, ◌≤◌, ◌++◌, false, length, option_map};
+ghost use Rattle.std.specs.Prelude.{◌≡◌, ◌≤◌, ◌++◌, length, option_map};
 ghost use Rattle.bit_texts.specs.Cursor.{cursor};
 ghost use Rattle.bit_texts.specs.Readings.{Gives};
 ghost use Rattle.bit_texts.specs.Texts.{Appends};
 ghost use Rattle.cavlc_mb_residual.specs.Counts.{IsAround};
 ghost use Rattle.cavlc_macroblock.specs.Macroblock.{pcm_text, macroblock_text};
-ghost use Rattle.cavlc_macroblock.specs.MacroblockLayer.{HasFewRefs};
 ghost use Rattle.cavlc_macroblock.specs.Reading.{pcm_at, IsSent, ReadsMacroblock};
 
 use crate::alignment::{read_alignment, write_alignment};
@@ -40,8 +39,6 @@ pub fn read_macroblock<B: BitSource>(
     bound: u8,
     mb: &mut Mb,
 ) -> Option<()>
-    requires frame { shape.now.mbaff ≡ false }
-    requires refs { HasFewRefs shape.now }
     requires around { IsAround around.now }
     requires within { bound ≤ 20 }
     ensures { ReadsMacroblock shape.now around.now bound (cursor (length (B.taken bits.old)) (B.left bits.old)) result mb.new (cursor (length (B.taken bits.new)) (B.left bits.new)) }
@@ -69,8 +66,6 @@ pub fn write_macroblock<B: BitSink>(
     around: &Around,
     mb: &Mb,
 ) -> Result<(), Memory>
-    requires frame { shape.now.mbaff ≡ false }
-    requires refs { HasFewRefs shape.now }
     requires around { IsAround around.now }
     requires sent { IsSent shape.now 20 mb.now }
     ensures { Appends (B.bits bits.old) (B.bits bits.new) (macroblock_text shape.now around.now (length (B.bits bits.old)) mb.now) result }

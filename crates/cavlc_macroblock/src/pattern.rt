@@ -6,7 +6,7 @@ ghost use Rattle.cavlc_macroblock.specs.MacroblockLayer as layer;
 
 use code_tables::{code_of_pattern, pattern_of};
 use exp_golomb::{BitSink, BitSource, read_se, read_ue, write_se, write_ue};
-use h264_types::{MbKind, Pattern};
+use h264_types::Pattern;
 use std::alloc::AllocError as Memory;
 
 /// Reads coded_block_pattern, me(v) (9.1.2), of I_NxN or of P and B macroblocks.
@@ -54,13 +54,6 @@ pub fn write_pattern_if<B: BitSink>(
         return write_pattern(bits, is_nxn, pattern);
     }
     Ok(())
-}
-
-/// Whether mb_qp_delta stands in a macroblock of this type with this coded_block_pattern.
-pub fn sends_qp_delta(kind: MbKind, pattern: Pattern) -> bool
-    ensures { result ≡ layer.sends_qp_delta kind pattern }
-{
-    kind.is_i_16x16() || !(pattern.luma == 0 && pattern.chroma == 0)
 }
 
 /// Reads mb_qp_delta where it is sent, else it is 0.

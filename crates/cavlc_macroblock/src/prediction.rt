@@ -4,20 +4,13 @@ ghost use Rattle.bit_texts.specs.Texts.{Reads, Appends, IsWhen, when_text, AreTu
 ghost use Rattle.h264_types.specs.Kind.{is_intra};
 ghost use Rattle.cavlc_macroblock.specs.MacroblockLayer as layer;
 
-use crate::transform_size::{read_t8_if, sends_t8_first, write_t8_if};
+use crate::transform_size::{read_t8_if, write_t8_if};
 use exp_golomb::{BitSink, BitSource, read_flag, read_u, read_ue, write_u, write_ue};
-use h264_types::{Mb, MbKind, SliceShape};
+use h264_types::{Mb, MbKind, SliceShape, mode_count};
 use std::alloc::AllocError as Memory;
 
 /// The mode that stands for a prev_intra4x4_pred_mode_flag or prev_intra8x8_pred_mode_flag of 1.
 const PREDICTED: u8 = 8;
-
-/// How many modes are sent: one for each 8x8 block, or for each 4x4 block.
-fn mode_count(t8: bool) -> usize
-    ensures { result ≡ layer.mode_count t8 }
-{
-    if t8 { 4 } else { 16 }
-}
 
 /// Reads prev_intra4x4_pred_mode_flag, and rem_intra4x4_pred_mode where it is 0, or those of an 8x8 block.
 fn read_mode<B: BitSource>(bits: &mut B) -> Option<u8>
@@ -119,7 +112,7 @@ pub fn read_intra<B: BitSource>(
     ensures reads { Reads (λ m. layer.IsIntra shape.now kind m × (m ≡ layer.with_intra mb.old m)) (layer.intra_text shape.now kind) (B.left bits.old) (option_map (λ _. mb.new) result) (B.left bits.new) }
     ensures kept { B.taken bits.new ++ B.left bits.new ≡ B.taken bits.old ++ B.left bits.old }
 {
-    mb.t8 = read_t8_if(bits, sends_t8_first(shape, kind), false)?;
+    mb.t8 = read_t8_if(bits, shape.sends_t8_first(kind), false)?;
     read_modes_if(bits, kind.is_i_nxn(), mb.t8, &mut mb.modes)?;
     mb.chroma_mode = read_ue(bits, 3)? as u8;
     Some(())
@@ -131,7 +124,7 @@ pub fn write_intra<B: BitSink>(bits: &mut B, shape: &SliceShape, mb: &Mb) -> Res
     requires sent { layer.IsIntra shape.now mb.now.kind mb.now }
     ensures { Appends (B.bits bits.old) (B.bits bits.new) (layer.intra_text shape.now mb.now.kind mb.now) result }
 {
-    write_t8_if(bits, sends_t8_first(shape, mb.kind), mb.t8)?;
+    write_t8_if(bits, shape.sends_t8_first(mb.kind), mb.t8)?;
     write_modes_if(bits, mb.kind.is_i_nxn(), mb.t8, &mb.modes)?;
     write_ue(bits, u32::from(mb.chroma_mode))
 }

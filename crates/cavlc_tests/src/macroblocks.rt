@@ -1,7 +1,6 @@
 //! Macroblocks in CAVLC (7.3.5).
 ghost use Rattle.std.specs.Prelude.{◌≡◌, false};
 ghost use Rattle.cavlc_mb_residual.specs.Counts.{IsAround};
-ghost use Rattle.cavlc_macroblock.specs.MacroblockLayer.{HasFewRefs};
 
 use cavlc_macroblock::{read_macroblock, write_alignment, write_macroblock};
 use cavlc_mb_residual::{Around, Sides};
@@ -25,7 +24,6 @@ const ALONE: Around = Around {
 /// A slice with two references of each list, in High profile.
 fn shape_of(kind: SliceKind, direct8: bool) -> SliceShape
     ensures frame { result.mbaff ≡ false }
-    ensures refs { HasFewRefs result }
 {
     SliceShape {
         kind,
@@ -52,7 +50,6 @@ fn read_and_written(
     mb: &mut Mb,
 ) -> Result<Vec<u8>, Fail>
     requires frame { shape.now.mbaff ≡ false }
-    requires refs { HasFewRefs shape.now }
     requires around { IsAround around.now }
 {
     let mut bits = SliceBits::new(bytes);

@@ -4,13 +4,10 @@ use Rattle.std.proofs.lemmas.List.{take_more_set, length-set, drop-set-lt}
 use Rattle.bit_texts.specs.Texts.{AreTurns, turns_text}
 use Rattle.bit_texts.proofs.Reading.{Reads-None}
 use Rattle.bit_texts.proofs.Turns.{Completes-turn, Completes-stop, Completes-end}
-use Rattle.cavlc_macroblock.specs.MacroblockLayer.{mode_count, mode_text}
-use Rattle.cavlc_macroblock.proofs.ElementLaws.{IsPrefixFree-mode}
+use Rattle.h264_types.specs.Sent.{mode_count}
+use Rattle.cavlc_macroblock.specs.MacroblockLayer.{mode_text}
+use Rattle.cavlc_macroblock.proofs.ElementLaws.{count_most, IsPrefixFree-mode}
 use Rattle.cavlc_macroblock.proofs.prediction.read_modes.Goals as goal
-
-count_most : (t8 : Bool) → mode_count t8 ≤ 16
-count_most true = omega arith
-count_most false = omega arith
 
 pub returns-in_err-modes-clause-reads : goal.returns-in_err-modes-clause-reads
 returns-in_err-modes-clause-reads g c =

@@ -1,6 +1,7 @@
 use Rattle.std.proofs.Common.{◌≡◌, ◌≤◌, ◌++◌, ◌-◌, ℕ, length, take, drop, replicate}
 use Rattle.bit_texts.specs.Texts.{Completes}
-use Rattle.cavlc_macroblock.specs.MacroblockLayer.{mode_count, mode_text}
+use Rattle.h264_types.specs.Sent.{mode_count}
+use Rattle.cavlc_macroblock.specs.MacroblockLayer.{mode_text}
 use Rattle.cavlc_macroblock.proofs.prediction.read_modes.Given as goal
 
 abbrev pub invariant-loop-n : goal.invariant-loop-n
