@@ -11,6 +11,8 @@ mod contexts;
 #[cfg(test)]
 mod increments;
 #[cfg(test)]
+mod intervals;
+#[cfg(test)]
 mod macroblocks;
 #[cfg(test)]
 mod segments;

@@ -1,5 +1,5 @@
 //! Macroblocks of I slices in CABAC (7.3.5): their bins with all contexts, and their bytes.
-ghost use Rattle.std.specs.Prelude.{◌≡◌, ◌*◌, ◌<◌, ◌≤◌, ℕ, false, true, pos, length, replicate, OnOk, IsTrue};
+ghost use Rattle.std.specs.Prelude.{◌≡◌, ◌*◌, ◌<◌, ◌≤◌, ℕ, false, true, pos, length, replicate, IfOk, IsTrue};
 ghost use Rattle.h264_types.specs.Macroblock.{quarter_of};
 
 use crate::bins::{Bins, Kind};
@@ -43,19 +43,20 @@ fn has_quarters(mb: &Mb) -> bool
     !mb.t8 || mb.luma.iter().all(|quarter| quarter[0] != 0)
 }
 
-/// Writes macroblock `at` of a slice; nothing where it is none, or has samples.
-fn put<S: BinSink>(s: &mut S, shape: &SliceShape, mbs: &[Mb], at: u32) -> Result<(), Memory>
+/// Writes macroblock `at` of a slice, or nothing where it is none. It answers whether a bin may follow.
+fn put<S: BinSink>(s: &mut S, shape: &SliceShape, mbs: &[Mb], at: u32) -> Result<bool, Memory>
     requires going { S.over s.old ≡ false }
     requires small { length mbs.now ≤ 4 }
-    ensures { OnOk result (S.over s.new ≡ false) }
+    ensures { IfOk result (λ more. more ≡ true → S.over s.new ≡ false) }
 {
     if valid(shape, mbs) && (at as usize) < mbs.len() {
         let mb = &mbs[at as usize];
-        if mb.kind.is_intra() && !mb.kind.is_i_pcm() && has_quarters(mb) {
+        if mb.kind.is_intra() && has_quarters(mb) {
             write_macroblock(s, shape, mbs, at, mb)?;
+            return Ok(!mb.kind.is_i_pcm());
         }
     }
-    Ok(())
+    Ok(true)
 }
 
 /// I_16x16 with mode 2 and no levels.
@@ -102,36 +103,57 @@ fn blocks() -> Mb {
 
 #[test]
 fn bins_of_macroblocks(rt: HostRuntime) -> Result<(), Fail> {
-    let mut bins = Bins::new(rt.alloc());
-    put(&mut bins, &row(1), &[flat()], 0)?;
-    let expected = [
-        (Context(3), true),
-        (End, false),
-        (Context(6), false),
-        (Context(7), false),
-        (Context(9), true),
-        (Context(10), false),
-        (Context(64), false),
-        (Context(60), false),
-        (Context(88), false),
+    let samples = Mb::without_elements(MbKind::Intra(25));
+    // the macroblocks of a slice, the number of bins of the last one, the first of them, and the last ones
+    let rows: [(&[Mb], usize, &[(Kind, bool)], &[(Kind, bool)]); 3] = [
+        (
+            &[flat()],
+            9,
+            &[
+                (Context(3), true),
+                (End, false),
+                (Context(6), false),
+                (Context(7), false),
+                (Context(9), true),
+                (Context(10), false),
+            ],
+            &[
+                (Context(64), false),
+                (Context(60), false),
+                (Context(88), false),
+            ],
+        ),
+        (&[samples], 2, &[(Context(3), true), (End, true)], &[]),
+        // beside one with the 8x8 transform, chroma levels, another chroma mode and an mb_qp_delta
+        (
+            &[detailed(), predicted()],
+            24,
+            &[(Context(3), false), (Context(400), false)],
+            &[
+                (Context(68), true),
+                (Context(65), false),
+                (Context(73), false),
+                (Context(74), false),
+                (Context(75), false),
+                (Context(76), false),
+                (Context(78), false),
+            ],
+        ),
     ];
-    assert!(rt; bins.list.as_slice() == expected.as_slice());
-
-    // beside one with the 8x8 transform, chroma levels, another chroma mode and an mb_qp_delta
-    let mut bins = Bins::new(rt.alloc());
-    put(&mut bins, &row(2), &[detailed(), predicted()], 1)?;
-    let front = [(Context(3), false), (Context(400), false)];
-    let back = [
-        (Context(68), true),
-        (Context(65), false),
-        (Context(73), false),
-        (Context(74), false),
-        (Context(75), false),
-        (Context(76), false),
-        (Context(78), false),
-    ];
-    assert_eq!(rt; bins.list.len(), 24);
-    assert!(rt; bins.list.starts_with(&front) && bins.list.ends_with(&back));
+    let shape = row(2);
+    for (mbs, count, front, back) in rows {
+        assert!(rt; mbs.len() == 1 || mbs.len() == 2);
+        let at = mbs.len() as u32 - 1;
+        let mut bins = Bins::new(rt.alloc());
+        put(&mut bins, &shape, mbs, at)?;
+        assert_eq!(rt; bins.list.len(), count);
+        assert!(rt; bins.list.starts_with(front) && bins.list.ends_with(back));
+        let mut bins = bins.again();
+        let mut read = Mb::without_elements(MbKind::Skip);
+        let done = read_macroblock(&mut bins, &shape, mbs, at, false, &mut read);
+        assert!(rt; done.is_some() && bins.is_read());
+        assert_eq!(rt; Some(&read), mbs.last());
+    }
     Ok(())
 }
 
@@ -177,7 +199,9 @@ fn bytes_of_macroblocks(rt: HostRuntime) -> Result<(), Fail> {
     for (mb, known) in rows {
         let encoder = Encoder::start(rt.alloc(), BitVec::new(rt.alloc()));
         let mut coder = OutCoder::new(Contexts::start(&init, 26, 0), encoder);
-        put(&mut coder, &shape, &[mb], 0)?;
+        if !put(&mut coder, &shape, &[mb], 0)? {
+            return Err(Fail::from("no end bin may follow"));
+        }
         coder.end(true)?;
         let (_contexts, bits) = coder.close()?;
         let Some(bytes) = filled(bits)? else {

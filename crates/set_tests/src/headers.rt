@@ -1,14 +1,13 @@
 //! Headers of slices, read and written again.
 use crate::payload::payload_of;
 use crate::under::{
-    ADAPTIVE, CABAC, CYCLIC, FIELDS, FULL, IMPLICIT_B, MAIN, MANY_L0, MANY_L1, PLAIN, UNORDERED,
-    WEIGHTED, WEIGHTED_P, sets,
+    ADAPTIVE, CABAC, CYCLIC, FIELDS, FULL, IMPLICIT_B, MAIN, MANY_L0, MANY_L1, MODIFIED_TEXT,
+    PLAIN, UNORDERED, WEIGHTED, WEIGHTED_P, WEIGHTED_TEXT, sets,
 };
 use exp_golomb::{BitVec, SliceBits};
-use h264_types::{Layer, SliceKind};
+use h264_types::Layer;
 use param_sets::Sets;
-use ref_pic_lists::{EntryWeights, PicNumModification, Weight};
-use slice_header::{layer_of, read_header, shape, write_header};
+use slice_header::{read_header, write_header};
 use std::alloc::Global;
 use std::test::Fail;
 
@@ -31,11 +30,6 @@ fn rewritten(
     write_header(&mut out, sets, &header, layer, number, idc)?;
     payload_of(alloc, out)
 }
-
-/// P and B slices, made bit by bit. Behind each there is a 1 and zero bits.
-const WEIGHTED_TEXT: [u8; 9] = [0xE2, 0x18, 0xB0, 0x08, 0x08, 0x0F, 0xE2, 0xA4, 0x3B];
-
-const MODIFIED_TEXT: [u8; 5] = [0xA8, 0xAB, 0xD8, 0x82, 0x1C];
 
 #[test]
 fn headers_come_back(rt: HostRuntime) -> Result<(), Fail> {
@@ -147,88 +141,5 @@ fn headers_in_both_layers(rt: HostRuntime) -> Result<(), Fail> {
         let out = rewritten(rt.alloc(), &sets, nal, payload, Layer::Cabac, number, idc)?;
         assert_eq!(rt; out.as_slice(), cabac);
     }
-    Ok(())
-}
-
-#[test]
-fn references_of_a_slice(rt: HostRuntime) -> Result<(), Fail> {
-    let with_weights = sets(rt.alloc(), &UNORDERED, &WEIGHTED)?;
-    let mut bits = SliceBits::new(&WEIGHTED_TEXT);
-    let header = read_header(rt.alloc(), &with_weights, 0x41, &mut bits)?;
-    assert!(rt; !header.num_ref_idx_active_override_flag);
-    let luma = Weight {
-        weight: -128,
-        offset: 127,
-    };
-    let entry = EntryWeights {
-        luma: Some(luma),
-        chroma: None,
-    };
-    let first = match &header.pred_weight_table {
-        None => None,
-        Some(table) => table.list_0.as_slice().first(),
-    };
-    assert_eq!(rt; first, Some(&entry));
-    let of_p = shape(&with_weights, &header);
-    assert_eq!(rt;
-        (of_p.kind, of_p.refs, of_p.column),
-        (SliceKind::P, [2, 0], 1)
-    );
-    let plain = sets(rt.alloc(), &UNORDERED, &PLAIN)?;
-    let mut bits = SliceBits::new(&MODIFIED_TEXT);
-    let header = read_header(rt.alloc(), &plain, 1, &mut bits)?;
-    let operations = [
-        PicNumModification::Subtract {
-            abs_diff_pic_num_minus1: 0,
-        },
-        PicNumModification::LongTerm {
-            long_term_pic_num: 7,
-        },
-    ];
-    assert_eq!(rt;
-        header.modification_l0.operations.as_slice(),
-        operations.as_slice()
-    );
-    assert!(rt; !header.modification_l1.flag && !header.direct_spatial_mv_pred_flag);
-    let of_b = shape(&plain, &header);
-    assert_eq!(rt; (of_b.kind, of_b.refs), (SliceKind::B, [2, 1]));
-    assert_eq!(rt; layer_of(&plain, &header), Layer::Cavlc);
-    Ok(())
-}
-
-#[test]
-fn elements_and_shape(rt: HostRuntime) -> Result<(), Fail> {
-    let sets = sets(rt.alloc(), &MAIN, &FULL)?;
-    let payload = [0xB8, 0x4C, 0x4A, 0x21, 0x8D, 0x19];
-    let mut bits = SliceBits::new(&payload);
-    let header = read_header(rt.alloc(), &sets, 0x65, &mut bits)?;
-    assert_eq!(rt;
-        (header.nal, header.slice_type, header.pic_order_cnt_lsb),
-        (0x65, 2, 3)
-    );
-    assert_eq!(rt;
-        (header.delta_pic_order_cnt_bottom, header.slice_qp_delta),
-        (-4, 4)
-    );
-    assert_eq!(rt;
-        (
-            header.no_output_of_prior_pics_flag,
-            header.long_term_reference_flag
-        ),
-        (false, true)
-    );
-    assert_eq!(rt;
-        (
-            header.slice_alpha_c0_offset_div2,
-            header.slice_beta_offset_div2
-        ),
-        (-6, 6)
-    );
-    let shape = shape(&sets, &header);
-    assert_eq!(rt;
-        (shape.kind, shape.width, shape.height),
-        (SliceKind::I, 1, 1)
-    );
-    assert_eq!(rt; (shape.qp, shape.profile, shape.column), (27, 77, 0));
     Ok(())
 }

@@ -5,6 +5,8 @@
 #[cfg(test)]
 mod codes;
 #[cfg(test)]
+mod elements;
+#[cfg(test)]
 mod headers;
 #[cfg(test)]
 mod lists;

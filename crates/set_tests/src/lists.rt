@@ -2,8 +2,8 @@
 use crate::payload::payload_of;
 use exp_golomb::{BitVec, SliceBits};
 use ref_pic_lists::{
-    ChromaWeights, EntryWeights, Weight, read_modification, read_weights, write_modification,
-    write_weights,
+    ChromaWeights, EntryWeights, PicNumModification, Weight, read_modification, read_weights,
+    write_modification, write_weights,
 };
 use std::test::Fail;
 
@@ -55,13 +55,23 @@ fn weight(weight: i32, offset: i32) -> Weight {
 }
 
 #[test]
-fn entries(rt: HostRuntime) -> Result<(), Fail> {
+fn operations_and_entries(rt: HostRuntime) -> Result<(), Fail> {
+    let mut bits = SliceBits::new(&[0xE8, 0x8C, 0x41, 0x20]);
+    let modification = read_modification(rt.alloc(), &mut bits)?;
+    let operations = [
+        PicNumModification::Subtract {
+            abs_diff_pic_num_minus1: 0,
+        },
+        PicNumModification::Add {
+            abs_diff_pic_num_minus1: 3,
+        },
+        PicNumModification::LongTerm {
+            long_term_pic_num: 7,
+        },
+    ];
+    assert_eq!(rt; modification.operations.as_slice(), operations.as_slice());
     let mut bits = SliceBits::new(&LEAST_AND_MOST);
     let table = read_weights(rt.alloc(), &mut bits, 1, None)?;
-    assert_eq!(rt;
-        (table.luma_log2_weight_denom, table.chroma_log2_weight_denom),
-        (7, 5)
-    );
     let chroma = ChromaWeights {
         cb: weight(1, -1),
         cr: weight(2, 0),
@@ -71,14 +81,5 @@ fn entries(rt: HostRuntime) -> Result<(), Fail> {
         chroma: Some(chroma),
     };
     assert_eq!(rt; table.list_0.as_slice(), [entry].as_slice());
-    assert_eq!(rt; table.list_1.as_slice().len(), 0);
-    let mut bits = SliceBits::new(&BOTH_LISTS);
-    let table = read_weights(rt.alloc(), &mut bits, 2, Some(1))?;
-    let second = EntryWeights {
-        luma: Some(weight(32, -2)),
-        chroma: None,
-    };
-    assert_eq!(rt; table.list_0.as_slice().get(1), Some(&second));
-    assert_eq!(rt; table.list_1.as_slice().len(), 1);
     Ok(())
 }

@@ -1,4 +1,4 @@
-//! Sets for headers, put together bit by bit.
+//! Sets for headers, and some headers, put together bit by bit.
 use param_sets::{Sets, read_pps, read_sps};
 use std::alloc::Global;
 use std::test::Fail;
@@ -36,6 +36,11 @@ pub const IMPLICIT_B: [u8; 3] = [0xCF, 0xB8, 0x80];
 pub const MANY_L0: [u8; 4] = [0xC8, 0x46, 0x38, 0x80];
 
 pub const MANY_L1: [u8; 4] = [0xCC, 0x22, 0x38, 0x80];
+
+/// P and B slices, made bit by bit. Behind each there is a 1 and zero bits.
+pub const WEIGHTED_TEXT: [u8; 9] = [0xE2, 0x18, 0xB0, 0x08, 0x08, 0x0F, 0xE2, 0xA4, 0x3B];
+
+pub const MODIFIED_TEXT: [u8; 5] = [0xA8, 0xAB, 0xD8, 0x82, 0x1C];
 
 /// These two sets.
 pub fn sets(alloc: Global, sps: &[u8], pps: &[u8]) -> Result<Sets, Fail> {
