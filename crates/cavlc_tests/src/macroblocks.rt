@@ -1,5 +1,4 @@
 //! Macroblocks in CAVLC (7.3.5).
-ghost use Rattle.std.specs.Prelude.{◌≡◌, false};
 ghost use Rattle.cavlc_mb_residual.specs.Counts.{IsAround};
 
 use cavlc_macroblock::{read_macroblock, write_alignment, write_macroblock};
@@ -22,9 +21,7 @@ const ALONE: Around = Around {
 };
 
 /// A slice with two references of each list, in High profile.
-fn shape_of(kind: SliceKind, direct8: bool) -> SliceShape
-    ensures frame { result.mbaff ≡ false }
-{
+fn shape_of(kind: SliceKind, direct8: bool) -> SliceShape {
     SliceShape {
         kind,
         width: 1,
@@ -49,7 +46,6 @@ fn read_and_written(
     bytes: &[u8],
     mb: &mut Mb,
 ) -> Result<Vec<u8>, Fail>
-    requires frame { shape.now.mbaff ≡ false }
     requires around { IsAround around.now }
 {
     let mut bits = SliceBits::new(bytes);
