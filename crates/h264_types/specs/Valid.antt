@@ -1,7 +1,7 @@
 -- Which lists of macroblocks are a slice's (7.3.4, 7.3.5, 7.4.4, 7.4.5).
 --
 -- Each element has a greatest magnitude, which is 0 where the syntax doesn't send the element.
-use Rattle.std.specs.Prelude.{◌≡◌, ℕ, ◌+◌, ◌-◌, ◌*◌, ◌/◌, ◌%◌, ◌<◌, ◌≤◌, Bool, true, false, not, ◌&&◌, ◌||◌, ◌==◌, nat_lt, nat_le, if◌then◌else◌, IsTrue, ℤ, pos, ◌≤ℤ◌, List, [], length, slice_index, slice_index_or, All, unsigned_abs}
+use Rattle.std.specs.Prelude.{◌≡◌, ℕ, ◌+◌, ◌-◌, ◌*◌, ◌/◌, ◌%◌, ◌<◌, ◌≤◌, Bool, true, false, not, ◌&&◌, ◌==◌, nat_lt, nat_le, if◌then◌else◌, IsTrue, ℤ, pos, ◌≤ℤ◌, List, [], length, slice_index, slice_index_or, All, unsigned_abs}
 use Rattle.std.specs.Int.{bit_at}
 use Rattle.std.specs.List.{list_all}
 use Rattle.h264_types.specs.declared.macroblock.Mb.{Mb}
@@ -190,6 +190,7 @@ pub record ArePairs (shape : SliceShape) (mbs : List Mb) : Type 0 where
   pub even : length mbs % 2 ≡ 0
   pub each : (pair : ℕ) → 2 * pair + 1 < length mbs → IsPair shape mbs pair
 
+-- the macroblocks of a slice, in a picture within the limits
 pub record IsSlice (shape : SliceShape) (mbs : List Mb) : Type 0 where
   pub is_shape : IsSliceShape shape
   pub some : 0 < length mbs

@@ -4,7 +4,7 @@ ghost use Rattle.h264_types.specs.declared.fault.Why.{Why};
 ghost use Rattle.h264_types.specs.declared.macroblock.Mb.{Mb};
 ghost use Rattle.h264_types.specs.Qp.{qp_of};
 ghost use Rattle.h264_types.specs.declared.fault.Why.TheVariants.{NoStart, Unit as BadUnit};
-ghost use Rattle.h264_types.specs.Units.{Seen, Splits, Stays, seen, seen_whole, no_more, faulty};
+ghost use Rattle.h264_types.specs.Units.{Splits, Stays, seen, seen_whole, no_more, faulty};
 
 /// A whole input splits into units in one way, and each one does: what is seen of it.
 pub fn input_splits_once()

@@ -1,8 +1,7 @@
 //! Which lists of macroblocks are a slice's, test by test as the definition has its facts.
-ghost use Rattle.std.specs.Prelude.{◌≡◌, ℕ, ◌+◌, ◌*◌, ◌<◌, ◌≤◌, ◌↔◌, length, IsTrue, All, ◌==◌, ◌&&◌, ◌||◌, not, nat_lt, slice_index, slice_index_or, unsigned_abs, pos};
-ghost use Rattle.std.specs.List.{list_all};
+ghost use Rattle.std.specs.Prelude.{◌≡◌, ℕ, ◌+◌, ◌*◌, ◌<◌, ◌≤◌, ◌↔◌, length, IsTrue, All, slice_index, slice_index_or, unsigned_abs, pos};
 ghost use Rattle.h264_types.specs.Partition.{partition_of, part_of};
-ghost use Rattle.h264_types.specs.Macroblock.{quarter_of, pattern_of};
+ghost use Rattle.h264_types.specs.Macroblock.{quarter_of};
 ghost use Rattle.h264_types.specs.Slice.{IsInPicture};
 ghost use Rattle.h264_types.specs.Valid.{RefsRepeat, MvdRepeats, IsListSent, IsQuarterCoded, IsLumaCoded, IsChromaCoded, IsQpDelta, IsPattern, pattern_bound, qp_delta_bound, sample_bound, luma_bound, last_luma_bound, dc_bound, chroma_dc_bound, chroma_ac_bound, mode_bound, sub_bound, ref_at, ref_bound, mvd_of, mvd_bound, list_is_used, is_kind_in, is_ref0, IsTyped, IsIntraPredicted, IsInterPredicted, IsCoded, IsMacroblock, IsPair, ArePairs, IsSlice, IsWithin};
 

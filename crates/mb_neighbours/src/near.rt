@@ -1,6 +1,6 @@
-ghost use Rattle.std.specs.Prelude.{◌≡◌, ◌<◌, ◌≤◌, IfSome};
+ghost use Rattle.std.specs.Prelude.{◌≡◌, ◌<◌, IfSome};
 ghost use Rattle.h264_types.specs.Slice.{IsInPicture};
-ghost use Rattle.mb_neighbours.specs.Place.{IsPlace, count_of, number_of};
+ghost use Rattle.mb_neighbours.specs.Place.{IsPlace, count_of};
 ghost use Rattle.mb_neighbours.specs.Near.{HasPairsBefore, IsBefore, left_of, above_of};
 
 use crate::pairs::{in_left_pair, in_pair_above};
