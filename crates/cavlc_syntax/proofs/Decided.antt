@@ -44,7 +44,7 @@ lists_searched shape built =
     let most : ℕ = shape.width * shape.height - shape.first in
     same_searched (λ mbs. ((length mbs ≤ most) × AllByRecursion Read mbs) × (1 ≤ length mbs)) (HasText shape)
     (λ mbs h. let few = h.0.0 in let some = h.1 in read_text shape mbs built (omega (arith, some)) (omega (arith, few, some)) (all_from Read mbs h.0.1))
-    (λ mbs has. let inside = has.are.slice.inside in let some = has.are.slice.some in ((omega (arith, inside), all_by Read mbs (all_read shape mbs has)), omega (arith, some)))
+    (λ mbs has. let inside = has.slice.inside in let some = has.slice.some in ((omega (arith, inside), all_by Read mbs (all_read shape mbs has)), omega (arith, some)))
     (conditions_searched (λ mbs. (length mbs ≤ most) × AllByRecursion Read mbs) (λ mbs. 1 ≤ length mbs) (λ mbs. most_decided 1 (length mbs)) (at_most_many_searched Read (read_searched shape) most))
 
 abbrev pub IsDecided : SliceShape → ℕ → List Bool → Type 0

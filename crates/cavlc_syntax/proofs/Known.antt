@@ -17,9 +17,8 @@ use Rattle.cavlc_syntax.specs.Reading.{run_at, skipped, IsRead}
 use Rattle.cavlc_syntax.specs.Row.{IsRow}
 use Rattle.cavlc_syntax.specs.SliceText.{HasText, prefix_bound, stop_text, coded_text, text_after, slice_text, NoList}
 use Rattle.cavlc_syntax.specs.Standing.{IsCodedNext, IsBehindRun, Remains, left_of, Knows, Stands, AreGiven}
-use Rattle.cavlc_macroblock.proofs.Layers.{IsPrefixFree-macroblock}
-use Rattle.cavlc_syntax.proofs.Members.{sent_of, bound_most, all_read, read_text}
-use Rattle.cavlc_syntax.proofs.Runs.{MaySkip, run_takes, run_reads, text_first, first_back, coded_more, text_more}
+use Rattle.cavlc_syntax.proofs.Members.{sent_of, all_read, read_text}
+use Rattle.cavlc_syntax.proofs.Runs.{MaySkip, run_takes, run_reads, text_first, first_back, coded_more, text_more, no_other}
 use Rattle.cavlc_syntax.proofs.TextParts.{stop_no_more, around_next, text_no_run}
 
 all_behind : {A : Type 0} (P : A → Type 0) (xs ys : List A) → All P (xs ++ ys) → All P ys
@@ -112,18 +111,18 @@ find_next shape pos all known run room c mbs k more is_room has e = let old = k.
     next_in : (tail : List Mb) → mbs ≡ known ++ tail → Remains shape known run c tail → Next shape known run room c mbs
     next_in [] parts r =
         let over = remains_end shape known run c r in
-        let there : more_data c.left ≡ true = more (omega (arith, has.are.slice.some, ap length parts, length-append known [])) over.0 in
+        let there : more_data c.left ≡ true = more (omega (arith, has.slice.some, ap length parts, length-append known [])) over.0 in
         let ended : more_data c.left ≡ false = ap more_data over.1 ∙ stop_no_more c.taken in
         absurd cc
     next_in (mb ∷ tail) parts r =
-        let few : length (mb ∷ tail) ≤ room = omega (arith, is_room, has.are.slice.inside, ap length parts, length-append known (mb ∷ tail)) in
+        let few : length (mb ∷ tail) ≤ room = omega (arith, is_room, has.slice.inside, ap length parts, length-append known (mb ∷ tail)) in
         let are : All (IsRead shape) (mb ∷ tail) = all_behind (IsRead shape) known (mb ∷ tail) (subst (All (IsRead shape)) parts (all_read shape mbs has)) in
         record {
           tail = mb ∷ tail;
           parts = parts;
           some = omega arith;
           few = few;
-          stands = ahead shape known run room c mb tail are few (omega (arith, is_room, has.size)) r;
+          stands = ahead shape known run room c mb tail are few (omega (arith, is_room, has.slice.is_shape.size)) r;
         }
 
 -- ---- refusals
@@ -223,7 +222,7 @@ know_next shape pos all known c d mb k room took =
         let Read = IsRead shape in
         let text = coded_text shape c.taken known in
         let is : IsRead shape x = All-head Read x tail (all_behind Read known (x ∷ tail) (subst (All Read) parts (all_read shape mbs has))) in
-        let same = same_rest (IsSent shape (prefix_bound shape)) text (IsPrefixFree-macroblock shape (around_next shape known) (prefix_bound shape) c.taken has.refs (bound_most shape)) x mb _ d.left (sent_of shape x is h.0) took.0 (sym h.1 ∙ took.1.parts) in
+        let same = same_rest (IsSent shape (prefix_bound shape)) text (no_other shape (around_next shape known) c.taken has.slice.is_shape) x mb _ d.left (sent_of shape x is h.0) took.0 (sym h.1 ∙ took.1.parts) in
         let far = λ (m : Mb). text_after shape (c.taken + length (text m)) (known ++ m ∷ []) 0 tail in (
           tail,
           parts ∙ ap (λ m. known ++ m ∷ tail) same.0 ∙ sym (append_assoc known (mb ∷ []) tail),

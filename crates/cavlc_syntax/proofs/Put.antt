@@ -7,7 +7,6 @@ use Rattle.h264_types.specs.Kind.{is_skip}
 use Rattle.h264_types.specs.Valid.{IsMacroblock}
 use Rattle.h264_types.specs.declared.macroblock.Mb.{Mb}
 use Rattle.h264_types.specs.declared.slice_shape.SliceShape.{SliceShape}
-use Rattle.h264_types.specs.Sizes.{HasSizes}
 use Rattle.cavlc_mb_residual.specs.MacroblockResidual.{is_beyond_mb}
 use Rattle.cavlc_mb_residual.specs.declared.counts.Around.{Around}
 use Rattle.cavlc_mb_residual.specs.declared.counts.Counts.{Counts}
@@ -74,12 +73,12 @@ pub may_sent : (kept : SliceShape) (count : ℕ) (row : List Counts) (run : ℕ)
     → BeginsSlice shape (done ++ mb ∷ []) → is_skip mb.kind ≡ false → IsSent kept 20 mb
 may_sent kept count row run bits shape before done mb w begins sent =
     subst (λ (s : SliceShape). IsSent s 20 mb) (sym w.of)
-    (sent_20 shape mb w.built.built.mbaff sent (all_last (IsMacroblock shape) done mb begins.0 begins.1.slice.macroblocks) (all_last HasSizes done mb begins.0 begins.1.sizes))
+    (sent_20 shape mb w.built.built.mbaff sent (all_last (IsMacroblock shape) done mb begins.0 begins.1.macroblocks))
 
 -- a skipped one has no level
 pub may_skip : (shape other : SliceShape) (done : List Mb) (mb : Mb) → shape.mbaff ≡ false → BeginsSlice shape (done ++ mb ∷ []) → is_skip mb.kind ≡ true → IsNotBeyond other mb
 may_skip shape other done mb mbaff begins skips =
-    let is = skipped_of shape mb mbaff skips (all_last (IsMacroblock shape) done mb begins.0 begins.1.slice.macroblocks) (all_last HasSizes done mb begins.0 begins.1.sizes) in
+    let is = skipped_of shape mb mbaff skips (all_last (IsMacroblock shape) done mb begins.0 begins.1.macroblocks) in
     ap (is_beyond_mb (prefix_bound other)) is.elements ∙ (skipped_levels (prefix_bound other)).1
 
 -- ---- the shape that a writer keeps

@@ -17,8 +17,11 @@ use Rattle.h264_types.specs.declared.macroblock.MbKind.TheVariants.{Skip}
 use Rattle.h264_types.specs.declared.slice_shape.SliceKind.{SliceKind}
 use Rattle.h264_types.specs.declared.slice_shape.SliceKind.TheVariants as slices
 use Rattle.h264_types.specs.declared.slice_shape.SliceShape.{SliceShape}
+use Rattle.h264_types.specs.SliceShape.{IsSliceShape}
+use Rattle.h264_types.proofs.ShapeLaws.{few_refs}
+use Rattle.cavlc_mb_residual.specs.declared.counts.Around.{Around}
+use Rattle.bit_texts.specs.Texts.{IsPrefixFree}
 use Rattle.cavlc_macroblock.specs.Macroblock.{macroblock_text}
-use Rattle.cavlc_macroblock.specs.MacroblockLayer.{HasFewRefs}
 use Rattle.cavlc_macroblock.specs.Reading.{IsSent}
 use Rattle.cavlc_syntax.specs.Reading.{run_at, IsSkipped, IsRead}
 use Rattle.cavlc_syntax.specs.SliceText.{prefix_bound, stop_text, run_text, last_run_text, coded_text, text_after}
@@ -222,19 +225,23 @@ same_after shape n known (x ∷ xs) (y ∷ ys) few few' p q behind e =
     (subst (λ (k : ℕ). IsBehindRun shape known k (cursor (n + length (run_text shape.kind k)) g.rest) (y ∷ ys)) (sym same.0) g.behind) in
     behind f.count (cursor (n + length (run_text shape.kind f.count)) f.rest) f.behind other
 
-pub same_behind : (shape : SliceShape) (known : List Mb) (count : ℕ) (d : Cursor) (xs ys : List Mb) → HasFewRefs shape → length xs ≤ 4294967294 → length ys ≤ 4294967294 → All (IsRead shape) xs → All (IsRead shape) ys
+-- no text of a macroblock begins another one
+pub no_other : (shape : SliceShape) (around : Around) (pos : ℕ) → IsSliceShape shape → IsPrefixFree (IsSent shape (prefix_bound shape)) (macroblock_text shape around pos)
+no_other shape around pos is = IsPrefixFree-macroblock shape around (prefix_bound shape) pos (omega (arith, few_refs shape 0 is.l0)) (omega (arith, few_refs shape 1 is.l1)) (bound_most shape)
+
+pub same_behind : (shape : SliceShape) (known : List Mb) (count : ℕ) (d : Cursor) (xs ys : List Mb) → IsSliceShape shape → length xs ≤ 4294967294 → length ys ≤ 4294967294 → All (IsRead shape) xs → All (IsRead shape) ys
     → IsBehindRun shape known count d xs → IsBehindRun shape known count d ys → xs ≡ ys
 unfolding IsBehindRun
-same_behind shape known zero d [] [] refs few few' p q left right = refl
-same_behind shape known zero d [] (y ∷ ys) refs few few' p q left right =
+same_behind shape known zero d [] [] is_shape few few' p q left right = refl
+same_behind shape known zero d [] (y ∷ ys) is_shape few few' p q left right =
     let some : more_data d.left ≡ true = coded_more shape known d y ys right in
     let none : more_data d.left ≡ false = ap more_data left ∙ stop_no_more d.taken in
     absurd cc
-same_behind shape known zero d (x ∷ xs) [] refs few few' p q left right =
+same_behind shape known zero d (x ∷ xs) [] is_shape few few' p q left right =
     let some : more_data d.left ≡ true = coded_more shape known d x xs left in
     let none : more_data d.left ≡ false = ap more_data right ∙ stop_no_more d.taken in
     absurd cc
-same_behind shape known zero d (x ∷ xs) (y ∷ ys) refs few few' p q left right =
+same_behind shape known zero d (x ∷ xs) (y ∷ ys) is_shape few few' p q left right =
     let Read = IsRead shape in
     let bound = prefix_bound shape in
     let around = around_next shape known in
@@ -243,18 +250,18 @@ same_behind shape known zero d (x ∷ xs) (y ∷ ys) refs few few' p q left righ
     let q' : All Read ys = All-tail Read y ys q in
     let one = sent_of shape x (All-head Read x xs p) left.0 in
     let two = sent_of shape y (All-head Read y ys q) right.0 in
-    let same = same_rest (IsSent shape bound) text (IsPrefixFree-macroblock shape around bound d.taken refs (bound_most shape)) x y _ _ one two (sym left.1 ∙ right.1) in
+    let same = same_rest (IsSent shape bound) text (no_other shape around d.taken is_shape) x y _ _ one two (sym left.1 ∙ right.1) in
     let rest = same.1 ∙ ap (λ z. text_after shape (d.taken + length (text z)) (known ++ z ∷ []) 0 ys) (sym same.0) in
     let tails : xs ≡ ys =
     same_after shape (d.taken + length (text x)) (known ++ x ∷ []) xs ys (omega (arith, few)) (omega (arith, few')) p' q'
-    (λ count c l r. same_behind shape (known ++ x ∷ []) count c xs ys refs (omega (arith, few)) (omega (arith, few')) p' q' l r) rest in
+    (λ count c l r. same_behind shape (known ++ x ∷ []) count c xs ys is_shape (omega (arith, few)) (omega (arith, few')) p' q' l r) rest in
     let heads : x ≡ y = same.0 in
     cc
-same_behind shape known (suc count) d [] ys refs few few' p q left right = absurd left
-same_behind shape known (suc count) d (x ∷ xs) [] refs few few' p q left right = absurd right
-same_behind shape known (suc count) d (x ∷ xs) (y ∷ ys) refs few few' p q left right =
+same_behind shape known (suc count) d [] ys is_shape few few' p q left right = absurd left
+same_behind shape known (suc count) d (x ∷ xs) [] is_shape few few' p q left right = absurd right
+same_behind shape known (suc count) d (x ∷ xs) (y ∷ ys) is_shape few few' p q left right =
     let heads : x ≡ y = left.0 ∙ sym right.0 in
     let tails : xs ≡ ys =
-    same_behind shape (known ++ x ∷ []) count d xs ys refs (omega (arith, few)) (omega (arith, few')) (All-tail (IsRead shape) x xs p) (All-tail (IsRead shape) y ys q) left.1
+    same_behind shape (known ++ x ∷ []) count d xs ys is_shape (omega (arith, few)) (omega (arith, few')) (All-tail (IsRead shape) x xs p) (All-tail (IsRead shape) y ys q) left.1
     (subst (λ z. IsBehindRun shape (known ++ z ∷ []) count d ys) (sym heads) right.1) in
     cc

@@ -1,12 +1,14 @@
 -- The text of a slice: no two lists have one, it fills bytes, ends in the stop bit, and rests on no column.
 use Rattle.std.proofs.Common.{◌≡◌, ℕ, ◌+◌, ◌-◌, ◌%◌, ◌<◌, ◌≤◌, Bool, true, false, List, [], ◌∷◌, ◌++◌, length, replicate, refl, sym, ap, subst, ◌∙◌, append_assoc, length-append, arith}
 use Rattle.std.proofs.lemmas.List.{length-replicate}
+use Rattle.std.proofs.lemmas.List.Elements.{All-weaker}
 use Rattle.h264_types.specs.declared.macroblock.Mb.{Mb}
 use Rattle.h264_types.specs.declared.slice_shape.SliceShape.{SliceShape}
-use Rattle.h264_types.specs.SliceShape.{without_column}
+use Rattle.h264_types.specs.SliceShape.{IsSliceShape, without_column}
+use Rattle.h264_types.specs.Valid.{IsListSent, IsMacroblock}
 use Rattle.cavlc_macroblock.specs.Macroblock.{macroblock_text}
 use Rattle.cavlc_macroblock.specs.MacroblockLayer.{layer_text}
-use Rattle.cavlc_syntax.specs.SliceText.{HasText, stop_text, run_text, last_run_text, coded_text, text_after, slice_text}
+use Rattle.cavlc_syntax.specs.SliceText.{IsNotBeyond, HasText, stop_text, run_text, last_run_text, coded_text, text_after, slice_text}
 use Rattle.cavlc_syntax.proofs.Members.{all_read}
 use Rattle.cavlc_syntax.proofs.Runs.{same_after, same_behind}
 use Rattle.cavlc_syntax.proofs.TextParts.{end_text, text_end, text_skip, text_coded, text_by}
@@ -14,11 +16,11 @@ use Rattle.cavlc_syntax.proofs.TextParts.{end_text, text_end, text_skip, text_co
 -- no bits are the text of two lists
 pub one_list : (shape : SliceShape) (pos : ℕ) (xs ys : List Mb) → HasText shape xs → HasText shape ys → slice_text shape pos xs ≡ slice_text shape pos ys → xs ≡ ys
 one_list shape pos xs ys p q e =
-    let few : length xs ≤ 4294967294 = omega (arith, p.are.slice.inside, p.size) in
-    let few' : length ys ≤ 4294967294 = omega (arith, q.are.slice.inside, q.size) in
+    let few : length xs ≤ 4294967294 = omega (arith, p.slice.inside, p.slice.is_shape.size) in
+    let few' : length ys ≤ 4294967294 = omega (arith, q.slice.inside, q.slice.is_shape.size) in
     let are = all_read shape xs p in
     let are' = all_read shape ys q in
-    same_after shape pos [] xs ys few few' are are' (λ count d l r. same_behind shape [] count d xs ys p.refs few few' are are' l r) e
+    same_after shape pos [] xs ys few few' are are' (λ count d l r. same_behind shape [] count d xs ys p.slice.is_shape few few' are are' l r) e
 
 -- ---- the end of a text
 
@@ -84,3 +86,48 @@ text_column shape =
 pub slice_of_both : (first second : SliceShape) (pos : ℕ) (mbs : List Mb) → without_column first ≡ without_column second → slice_text first pos mbs ≡ slice_text second pos mbs
 slice_of_both first second pos mbs same =
     text_column first pos [] 0 mbs ∙ ap (λ (s : SliceShape). text_after s pos [] 0 mbs) same ∙ sym (text_column second pos [] 0 mbs)
+
+-- the lists that have a text rest on no column, either
+column_list : (shape : SliceShape) (mb : Mb) (x column : ℕ) → IsListSent shape mb x → IsListSent (record shape { column = column }) mb x
+column_list shape mb x column is = record { refs = is.refs; refs_repeat = is.refs_repeat; mvd = is.mvd; mvd_repeat = is.mvd_repeat }
+
+column_macroblock : (shape : SliceShape) (column : ℕ) (mb : Mb) → IsMacroblock shape mb → IsMacroblock (record shape { column = column }) mb
+column_macroblock shape column mb is = record {
+  sizes = is.sizes;
+  typed = record { kind = is.typed.kind; ref0 = is.typed.ref0; field = is.typed.field; t8 = is.typed.t8 };
+  intra = is.intra;
+  inter = record { subs = is.inter.subs; l0 = column_list shape mb 0 column is.inter.l0; l1 = column_list shape mb 1 column is.inter.l1 };
+  coded = is.coded;
+}
+
+column_shape : (shape : SliceShape) (column : ℕ) → column ≤ 3 → IsSliceShape shape → IsSliceShape (record shape { column = column })
+column_shape shape column h is = record {
+  some = is.some;
+  width = is.width;
+  size = is.size;
+  pairs = is.pairs;
+  profile = is.profile;
+  qp = is.qp;
+  column = h;
+  l0 = record { some = is.l0.some; few = is.l0.few };
+  l1 = record { some = is.l1.some; few = is.l1.few };
+}
+
+column_text : (shape : SliceShape) (column : ℕ) (mbs : List Mb) → column ≤ 3 → HasText shape mbs → HasText (record shape { column = column }) mbs
+column_text shape column mbs h has =
+    let other : SliceShape = record shape { column = column } in
+    record {
+      built = record { mbaff = has.built.mbaff };
+      slice = record {
+        is_shape = column_shape shape column h has.slice.is_shape;
+        some = has.slice.some;
+        inside = has.slice.inside;
+        macroblocks = All-weaker (IsMacroblock shape) (IsMacroblock other) (column_macroblock shape column) mbs has.slice.macroblocks;
+        pairs = λ mbaff. let no : shape.mbaff ≡ false = has.built.mbaff in absurd cc;
+      };
+      within = All-weaker (IsNotBeyond shape) (IsNotBeyond other) (λ mb h. h) mbs has.within;
+    }
+
+pub lists_of_both : (first second : SliceShape) (mbs : List Mb) → without_column first ≡ without_column second → second.column ≤ 3 → HasText first mbs → HasText second mbs
+lists_of_both first second mbs same h has =
+    subst (λ (s : SliceShape). HasText s mbs) (ap (λ (s : SliceShape). record s { column = second.column }) same) (column_text first second.column mbs h has)

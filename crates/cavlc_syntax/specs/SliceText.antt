@@ -1,11 +1,9 @@
 -- The data of a slice, and the lists of macroblocks that have a text (ITU-T H.264, 7.3.4).
-use Rattle.std.specs.Prelude.{◌≡◌, ℕ, ◌+◌, ◌-◌, ◌*◌, ◌%◌, ◌≤◌, ◌==◌, if◌then◌else◌, Bool, true, false, List, [], ◌∷◌, ◌++◌, length, replicate, All}
+use Rattle.std.specs.Prelude.{◌≡◌, ℕ, ◌+◌, ◌-◌, ◌%◌, ◌==◌, if◌then◌else◌, Bool, true, false, List, [], ◌∷◌, ◌++◌, length, replicate, All}
 use Rattle.exp_golomb.specs.Code.{ue}
 use Rattle.cavlc_mb_residual.specs.Counts.{around_of}
 use Rattle.cavlc_mb_residual.specs.declared.counts.Around.{Around}
-use Rattle.h264_types.specs.Sizes.{HasSizes}
 use Rattle.cavlc_mb_residual.specs.MacroblockResidual.{is_beyond_mb}
-use Rattle.cavlc_macroblock.specs.MacroblockLayer.{HasFewRefs}
 use Rattle.cavlc_macroblock.specs.Macroblock.{macroblock_text}
 use Rattle.h264_types.specs.Kind.{is_skip}
 use Rattle.h264_types.specs.declared.macroblock.Mb.{Mb}
@@ -22,28 +20,19 @@ pub record IsBuilt (shape : SliceShape) : Type 0 where
 pub record IsBuiltShape (shape : SliceShape) : Type 0 where
   pub is_shape : IsSliceShape shape
   pub built : IsBuilt shape
-  pub refs : HasFewRefs shape
 
 -- The greatest level_prefix: 15 in Main (9.2.2.1, A.2.2). In High it has no bound of its own, and none above 20 is needed.
 abbrev pub prefix_bound : SliceShape → ℕ
 prefix_bound shape = if shape.profile == 77 then 15 else 20
 
--- the macroblocks of a slice, with lists as long as the arrays of an `Mb`
-pub record AreOfSlice (shape : SliceShape) (mbs : List Mb) : Type 0 where
-  pub slice : IsSlice shape mbs
-  pub sizes : All HasSizes mbs
-
 -- no level of the macroblock needs a longer level_prefix
 abbrev pub IsNotBeyond : SliceShape → Mb → Type 0
 IsNotBeyond shape mb = is_beyond_mb (prefix_bound shape) mb ≡ false
 
--- The lists of macroblocks that have a text, in a picture within the limits: no mb_skip_run is longer than one, and no
--- reference index is above 31.
+-- the lists of macroblocks that have a text
 pub record HasText (shape : SliceShape) (mbs : List Mb) : Type 0 where
   pub built : IsBuilt shape
-  pub size : shape.width * shape.height ≤ 139264
-  pub refs : HasFewRefs shape
-  pub are : AreOfSlice shape mbs
+  pub slice : IsSlice shape mbs
   pub within : All (IsNotBeyond shape) mbs
 
 -- rbsp_slice_trailing_bits (7.3.2.10, 7.3.2.11): the stop bit, and zero bits up to the byte boundary

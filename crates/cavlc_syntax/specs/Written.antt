@@ -5,17 +5,18 @@ use Rattle.cavlc_mb_residual.specs.Counts.{around_of}
 use Rattle.cavlc_mb_residual.specs.MacroblockResidual.{is_beyond_mb}
 use Rattle.cavlc_mb_residual.specs.declared.counts.Counts.{Counts}
 use Rattle.h264_types.specs.Kind.{is_skip}
+use Rattle.h264_types.specs.Valid.{IsSlice}
 use Rattle.h264_types.specs.declared.macroblock.Mb.{Mb}
 use Rattle.h264_types.specs.declared.slice_shape.SliceShape.{SliceShape}
 use Rattle.cavlc_syntax.specs.declared.writer.CavlcWriter.{CavlcWriter}
 use Rattle.cavlc_syntax.specs.declared.fault.PutFault.{PutFault}
 use Rattle.cavlc_syntax.specs.declared.fault.PutFault.TheVariants.{Beyond, Memory}
 use Rattle.cavlc_syntax.specs.Row.{IsRow}
-use Rattle.cavlc_syntax.specs.SliceText.{IsBuiltShape, AreOfSlice, IsNotBeyond, prefix_bound, put_text, text_after, slice_text}
+use Rattle.cavlc_syntax.specs.SliceText.{IsBuiltShape, IsNotBeyond, prefix_bound, put_text, text_after, slice_text}
 
 -- these begin the macroblocks of a slice
 abbrev pub BeginsSlice : SliceShape → List Mb → Type 0
-BeginsSlice shape front = (tail : List Mb) × AreOfSlice shape (front ++ tail)
+BeginsSlice shape front = (tail : List Mb) × IsSlice shape (front ++ tail)
 
 -- `done` was put behind the bits `before`: whatever follows, the text of the whole is what was put and the text of the
 -- rest. A writer keeps the shape, how many were put, what the last ones count, and how many of them are skipped and in no

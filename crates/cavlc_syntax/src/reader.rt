@@ -1,6 +1,5 @@
 //! The data of a slice, read one macroblock at a time.
 ghost use Rattle.std.specs.Prelude.{◌≡◌, length};
-ghost use Rattle.cavlc_macroblock.specs.MacroblockLayer.{HasFewRefs};
 ghost use Rattle.cavlc_syntax.specs.Row.{IsInRows};
 
 use crate::bound::prefix_bound;
@@ -33,7 +32,6 @@ pub struct CavlcReader<B> {
     /// that isn't skipped, and at the beginning.
     run: Option<u32>,
     ghost in_rows: { IsInRows shape },
-    ghost refs: { HasFewRefs shape },
     ghost kept: { length row.counts.items ≡ shape.width },
 }
 

@@ -1,7 +1,6 @@
 //! The data of a slice, written one macroblock at a time.
-ghost use Rattle.std.specs.Prelude.{◌≡◌, ◌≤◌, false, length};
+ghost use Rattle.std.specs.Prelude.{◌≡◌, ◌≤◌, length};
 ghost use Rattle.bit_texts.specs.Texts.{Appends};
-ghost use Rattle.cavlc_macroblock.specs.MacroblockLayer.{HasFewRefs};
 ghost use Rattle.cavlc_macroblock.specs.Reading.{IsSent};
 ghost use Rattle.cavlc_mb_residual.specs.Counts.{IsAround};
 ghost use Rattle.cavlc_syntax.specs.Row.{IsInRows};
@@ -29,7 +28,6 @@ pub struct CavlcWriter<B> {
     /// How many of the last ones are skipped, and in no mb_skip_run yet.
     run: u32,
     ghost in_rows: { IsInRows shape },
-    ghost refs: { HasFewRefs shape },
     ghost few: { run ≤ 139264 },
     ghost kept: { length row.counts.items ≡ shape.width },
 }
@@ -108,8 +106,6 @@ fn write_coded<B: BitSink>(
     run: u32,
     mb: &Mb,
 ) -> Result<(), Memory>
-    requires frame { shape.now.mbaff ≡ false }
-    requires refs { HasFewRefs shape.now }
     requires around { IsAround around.now }
     requires few { run ≤ 139264 }
     requires sent { IsSent shape.now 20 mb.now }
