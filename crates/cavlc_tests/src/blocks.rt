@@ -1,8 +1,5 @@
 //! Residual blocks in CAVLC (9.2): worked texts, and the levels at the end of the escape.
-ghost use Rattle.std.specs.Prelude.{◌≤◌, length};
-ghost use Rattle.std.specs.List.{AllByRecursion};
-ghost use Rattle.cavlc_residual.specs.Coefficients.{magnitude};
-ghost use Rattle.cavlc_residual.specs.Block.{IsShape};
+ghost use Rattle.std.specs.Prelude.{◌≤◌};
 
 use cavlc_residual::{BlockFault, read_block, read_levels, write_block, write_levels};
 use exp_golomb::{BitSink, BitVec, SliceBits};
@@ -10,60 +7,66 @@ use h264_types::Levels;
 use std::alloc::Global;
 use std::test::Fail;
 
-/// The bytes of a block's text, filled up with zero bits.
-fn written(alloc: Global, nc: i8, levels: &[i32], bound: u8) -> Result<Vec<u8>, Fail>
-    requires shape { IsShape nc (length levels.now) }
-    requires small { AllByRecursion (λ l. magnitude l ≤ 65535) levels.now }
-    requires within { bound ≤ 20 }
+/// The bytes of a block with one level, at its first place, filled up with zero bits; none where the level is beyond the
+/// bound.
+fn text_of(alloc: Global, level: u16, bound: u8) -> Result<Option<Vec<u8>>, Fail>
+    requires { bound ≤ 20 }
 {
+    let levels = [
+        i32::from(level),
+        0,
+        0,
+        0,
+        0,
+        0,
+        0,
+        0,
+        0,
+        0,
+        0,
+        0,
+        0,
+        0,
+        0,
+        0,
+    ];
     let mut bits = BitVec::new(alloc);
-    write_levels(&mut bits, nc, levels, bound)?;
+    match write_levels(&mut bits, 0, &levels, bound) {
+        Ok(()) => {}
+        Err(BlockFault::Beyond) => return Ok(None),
+        Err(fault) => return Err(fault.into()),
+    }
     for _zero in 0..7u8 {
         if !bits.aligned() {
             bits.put(false)?;
         }
     }
     if bits.aligned() {
-        return Ok(bits.into_bytes());
+        return Ok(Some(bits.into_bytes()));
     }
-    Ok(Vec::new(alloc))
+    Ok(None)
 }
 
+/// The greatest level of level_prefix 15, and the first one of level_prefix 16.
 #[test]
-fn texts_are_written(rt: HostRuntime) -> Result<(), Fail> {
-    let three_ones = [0, 3, 0, 1, -1, -1, 0, 1, 0, 0, 0, 0, 0, 0, 0, 0];
-    let text = written(rt.alloc(), 0, &three_ones, 15)?;
-    assert_eq!(rt; text.as_slice(), [0x08, 0xe5, 0xed].as_slice());
-
-    let growing = [-2, 4, 3, -3, 0, 0, -1, 0, 0, 0, 0, 0, 0, 0, 0, 0];
-    let text = written(rt.alloc(), 0, &growing, 15)?;
-    assert_eq!(rt; text.as_slice(), [0x01, 0xa2, 0x42, 0xe6, 0x00].as_slice());
-
-    let ones_alone = [0, 0, 0, 1, 0, 1, 0, 0, 0, -1, 0, 0, 0, 0, 0, 0];
-    let text = written(rt.alloc(), 0, &ones_alone, 15)?;
-    assert_eq!(rt; text.as_slice(), [0x1c, 0x72].as_slice());
-
-    let text = written(rt.alloc(), -1, &[0, 0, 0, 0], 15)?;
-    assert_eq!(rt; text.as_slice(), [0x40].as_slice());
-
-    // the greatest level of level_prefix 15, and the first one of level_prefix 16
-    let greatest = [2064, 0, 0, 0, 0, 0, 0, 0, 0, 0, 0, 0, 0, 0, 0, 0];
-    let text = written(rt.alloc(), 0, &greatest, 15)?;
-    assert_eq!(rt; text.as_slice(), [0x14, 0x00, 0x07, 0xff, 0xa0].as_slice());
-    let beyond = [2065, 0, 0, 0, 0, 0, 0, 0, 0, 0, 0, 0, 0, 0, 0, 0];
-    let mut bits = BitVec::new(rt.alloc());
-    assert_eq!(rt;
-        write_levels(&mut bits, 0, &beyond, 15),
-        Err(BlockFault::Beyond)
-    );
-    let text = written(rt.alloc(), 0, &beyond, 20)?;
-    assert_eq!(rt; text.as_slice(), [0x14, 0x00, 0x02, 0x00, 0x08].as_slice());
+fn levels_at_the_end_of_the_escape(rt: HostRuntime) -> Result<(), Fail> {
+    let rows: [(u16, u8, Option<[u8; 5]>); 3] = [
+        (2064, 15, Some([0x14, 0x00, 0x07, 0xff, 0xa0])),
+        (2065, 15, None),
+        (2065, 20, Some([0x14, 0x00, 0x02, 0x00, 0x08])),
+    ];
+    for (level, bound, wanted) in rows {
+        assert!(rt; bound <= 20);
+        let text = text_of(rt.alloc(), level, bound)?;
+        let text = text.as_ref().map(|text| text.as_slice());
+        assert_eq!(rt; text, wanted.as_ref().map(|wanted| wanted.as_slice()));
+    }
     Ok(())
 }
 
 #[test]
 fn texts_are_read(rt: HostRuntime) {
-    // nC, the bytes of a text, TotalCoeff, and the levels
+    // the bytes of a text of nC 0, TotalCoeff, and the levels
     let rows: [(&[u8], u8, [i32; 16]); 4] = [
         (
             &[0x08, 0xe5, 0xed],

@@ -96,26 +96,49 @@ fn known_texts(rt: HostRuntime) -> Result<(), Fail> {
 }
 
 #[test]
-fn elements_of_p_8x8(rt: HostRuntime) -> Result<(), Fail> {
-    let mut mb = Mb::without_elements(MbKind::P(3));
-    let bytes = [0xa6, 0x4d, 0x6b, 0x7f, 0xee];
-    read_and_written(rt.alloc(), false, [1, 0], &bytes, &mut mb)?;
-    assert_eq!(rt; mb.subs, [0, 1, 2, 3]);
-    assert_eq!(rt; mb.mvd[0][5], [1, 0]);
-    assert_eq!(rt; mb.mvd[0][6], [0, 1]);
-    assert_eq!(rt; mb.mvd[0][10], [0, 0]);
-    assert_eq!(rt; mb.mvd[0][11], [-1, 0]);
-    assert_eq!(rt; mb.mvd[0][15], [0, -1]);
-    Ok(())
-}
-
-#[test]
-fn elements_of_b_bi_16x16(rt: HostRuntime) -> Result<(), Fail> {
-    let mut mb = Mb::without_elements(MbKind::B(3));
-    read_and_written(rt.alloc(), false, [2, 2], &[0x96, 0xe0], &mut mb)?;
-    assert_eq!(rt; mb.refs[0], [0; 4]);
-    assert_eq!(rt; mb.refs[1], [1; 4]);
-    assert_eq!(rt; mb.mvd[0][7], [1, 0]);
-    assert_eq!(rt; mb.mvd[1][15], [0, -1]);
+fn elements_of_predictions(rt: HostRuntime) -> Result<(), Fail> {
+    // sub_mb_type and the indices, and the vector differences of some blocks, by list: P_8x8 of 8x8, 8x4, 4x8 and 4x4;
+    // B_Bi_16x16
+    let rows: [(
+        MbKind,
+        [u8; 2],
+        &[u8],
+        [u8; 4],
+        [[u8; 4]; 2],
+        &[(u8, u8, [i32; 2])],
+    ); 2] = [
+        (
+            MbKind::P(3),
+            [1, 0],
+            &[0xa6, 0x4d, 0x6b, 0x7f, 0xee],
+            [0, 1, 2, 3],
+            [[0; 4]; 2],
+            &[
+                (0, 5, [1, 0]),
+                (0, 6, [0, 1]),
+                (0, 10, [0, 0]),
+                (0, 11, [-1, 0]),
+                (0, 15, [0, -1]),
+            ],
+        ),
+        (
+            MbKind::B(3),
+            [2, 2],
+            &[0x96, 0xe0],
+            [0; 4],
+            [[0; 4], [1; 4]],
+            &[(0, 7, [1, 0]), (1, 15, [0, -1])],
+        ),
+    ];
+    for (kind, active, bytes, subs, refs, vectors) in rows {
+        let mut mb = Mb::without_elements(kind);
+        read_and_written(rt.alloc(), false, active, bytes, &mut mb)?;
+        assert_eq!(rt; (mb.subs, mb.refs), (subs, refs));
+        for (list, block, vector) in vectors {
+            assert!(rt; *list < 2 && *block < 16);
+            let found = mb.mvd[usize::from(*list)][usize::from(*block)];
+            assert_eq!(rt; found, *vector, "{kind:?} {block}");
+        }
+    }
     Ok(())
 }

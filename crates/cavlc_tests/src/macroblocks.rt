@@ -150,13 +150,7 @@ fn texts_of_macroblocks(rt: HostRuntime) -> Result<(), Fail> {
 }
 
 #[test]
-fn elements_of_intra_macroblocks(rt: HostRuntime) -> Result<(), Fail> {
-    let shape = shape_of(SliceKind::I, false);
-    let mut mb = Mb::without_elements(MbKind::Skip);
-    read_and_written(rt.alloc(), &shape, &ALONE, &[0xe7, 0xc8], &mut mb)?;
-    assert!(rt; mb.t8);
-    assert_eq!(rt; (mb.modes[0], mb.modes[1], mb.modes[4]), (8, 3, 0));
-
+fn elements_of_i_nxn(rt: HostRuntime) -> Result<(), Fail> {
     let around = Around {
         luma: Sides {
             left: Some([2, 0, 0, 0]),
@@ -165,34 +159,18 @@ fn elements_of_intra_macroblocks(rt: HostRuntime) -> Result<(), Fail> {
         cb: NOTHING,
         cr: NOTHING,
     };
+    let mut wanted = Mb::without_elements(MbKind::Intra(0));
+    wanted.modes = [8; 16];
+    wanted.modes[0] = 3;
+    wanted.chroma_mode = 1;
+    wanted.pattern = Pattern { luma: 1, chroma: 0 };
+    wanted.qp_delta = -1;
+    wanted.luma[0][0] = 1;
+    let shape = shape_of(SliceKind::I, false);
+    let mut mb = Mb::without_elements(MbKind::Skip);
     let bytes = [0x8f, 0xff, 0xfa, 0x0f, 0x39, 0xe0];
     let text = read_and_written(rt.alloc(), &shape, &around, &bytes, &mut mb)?;
     assert_eq!(rt; text.as_slice(), bytes.as_slice());
-    assert!(rt; !mb.t8);
-    assert_eq!(rt; (mb.modes[0], mb.modes[1], mb.chroma_mode), (3, 8, 1));
-    assert_eq!(rt; mb.pattern, Pattern { luma: 1, chroma: 0 });
-    assert_eq!(rt; (mb.qp_delta, mb.luma[0][0]), (-1, 1));
-    Ok(())
-}
-
-#[test]
-fn i_pcm_of_p_slices(rt: HostRuntime) -> Result<(), Fail> {
-    let shape = shape_of(SliceKind::P, false);
-    let mut mb = Mb::without_elements(MbKind::Skip);
-    let mut bytes = [7; 386];
-    bytes[0] = 0x0f;
-    bytes[1] = 0x80;
-    bytes[2] = 1;
-    let text = read_and_written(rt.alloc(), &shape, &ALONE, &bytes, &mut mb)?;
-    assert_eq!(rt; text.as_slice(), bytes.as_slice());
-    assert_eq!(rt;
-        (mb.kind, mb.pcm[0], mb.pcm[383]),
-        (MbKind::Intra(25), 1, 7)
-    );
-
-    // a bit of the alignment is 1
-    bytes[1] = 0x81;
-    let text = read_and_written(rt.alloc(), &shape, &ALONE, &bytes, &mut mb)?;
-    assert_eq!(rt; text.as_slice().len(), 0);
+    assert_eq!(rt; mb, wanted);
     Ok(())
 }

@@ -45,29 +45,28 @@ fn a_slice_from_the_middle_of_a_row_on(rt: HostRuntime) {
     }
 }
 
-/// The blocks to the left and above, by number; those in the first column are of macroblock 3, those in the first row
-/// of macroblock 1.
+/// The blocks to the left and above of those of macroblock 4, by number; those beside the first column are of macroblock 3,
+/// those over the first row of macroblock 1.
 #[test]
 fn blocks_of_a_macroblock(rt: HostRuntime) {
     let shape = shape(3, 0, false);
-    let left4 = [5, 0, 7, 2, 1, 4, 3, 6, 13, 8, 15, 10, 9, 12, 11, 14];
-    let above4 = [10, 11, 0, 1, 14, 15, 4, 5, 2, 3, 8, 9, 6, 7, 12, 13];
-    for n in 0..16 {
-        let place = At::Luma4(n);
-        let mb = if [0, 2, 8, 10].contains(&n) { 3 } else { 4 };
-        assert_eq!(rt;
-            left(&shape, &[], 4, false, place),
-            spot(mb, left4[n as usize]),
-            "left of {n}"
-        );
-        let mb = if [0, 1, 4, 5].contains(&n) { 1 } else { 4 };
-        assert_eq!(rt;
-            above(&shape, &[], 4, false, place),
-            spot(mb, above4[n as usize]),
-            "above {n}"
-        );
-    }
     for (place, mb_left, block_left, mb_above, block_above) in [
+        (At::Luma4(0), 3, 5, 1, 10),
+        (At::Luma4(1), 4, 0, 1, 11),
+        (At::Luma4(2), 3, 7, 4, 0),
+        (At::Luma4(3), 4, 2, 4, 1),
+        (At::Luma4(4), 4, 1, 1, 14),
+        (At::Luma4(5), 4, 4, 1, 15),
+        (At::Luma4(6), 4, 3, 4, 4),
+        (At::Luma4(7), 4, 6, 4, 5),
+        (At::Luma4(8), 3, 13, 4, 2),
+        (At::Luma4(9), 4, 8, 4, 3),
+        (At::Luma4(10), 3, 15, 4, 8),
+        (At::Luma4(11), 4, 10, 4, 9),
+        (At::Luma4(12), 4, 9, 4, 6),
+        (At::Luma4(13), 4, 12, 4, 7),
+        (At::Luma4(14), 4, 11, 4, 12),
+        (At::Luma4(15), 4, 14, 4, 13),
         (At::Luma8(0), 3, 1, 1, 2),
         (At::Luma8(1), 4, 0, 1, 3),
         (At::Luma8(2), 3, 3, 4, 0),
@@ -78,15 +77,9 @@ fn blocks_of_a_macroblock(rt: HostRuntime) {
         (At::Chroma4(3), 4, 2, 4, 1),
     ] {
         assert!(rt; is_place(place));
-        assert_eq!(rt;
-            left(&shape, &[], 4, false, place),
-            spot(mb_left, block_left),
-            "left of {place:?}"
-        );
-        assert_eq!(rt;
-            above(&shape, &[], 4, false, place),
-            spot(mb_above, block_above),
-            "above {place:?}"
-        );
+        let found = left(&shape, &[], 4, false, place);
+        assert_eq!(rt; found, spot(mb_left, block_left), "left of {place:?}");
+        let found = above(&shape, &[], 4, false, place);
+        assert_eq!(rt; found, spot(mb_above, block_above), "above {place:?}");
     }
 }

@@ -3,34 +3,39 @@ use crate::spots::{is_place, shape, skipped, spot};
 use h264_types::slice_order::inferred_field;
 use mb_neighbours::{At, above, left};
 
-/// The second pair of a row after a frame or a field pair, by its macroblocks 2 and 3.
+/// The second and the third pair of a row, after frame or field pairs: the flag of the current pair, those of the first and of
+/// the second, the macroblock and its place, and what is to the left of it. The last rows are of a frame pair after a skipped
+/// one, which has the flag of the field pair before it.
 #[test]
 fn blocks_beside_the_left_pair(rt: HostRuntime) {
-    let shape = shape(2, 0, true);
-    for (field, left_field, at, place, mb, block) in [
-        (false, false, 2, At::Luma4(10), 0, 15),
-        (false, false, 3, At::Luma4(10), 1, 15),
-        (false, true, 2, At::Luma4(2), 0, 5),
-        (false, true, 2, At::Luma4(8), 0, 7),
-        (false, true, 3, At::Luma4(0), 0, 13),
-        (false, true, 3, At::Chroma4(0), 0, 3),
-        (true, false, 2, At::Luma4(2), 0, 13),
-        (true, false, 2, At::Luma4(8), 1, 5),
-        (true, false, 3, At::Luma8(2), 1, 1),
-        (true, false, 3, At::Whole, 0, 0),
-        (true, true, 2, At::Luma4(8), 0, 13),
-        (true, true, 3, At::Whole, 1, 0),
-        (true, true, 3, At::Chroma4(1), 3, 0),
+    let shape = shape(3, 0, true);
+    for (field, first, second, at, place, mb, block) in [
+        (false, false, false, 2, At::Luma4(10), 0, 15),
+        (false, false, false, 3, At::Luma4(10), 1, 15),
+        (false, true, false, 2, At::Luma4(2), 0, 5),
+        (false, true, false, 2, At::Luma4(8), 0, 7),
+        (false, true, false, 3, At::Luma4(0), 0, 13),
+        (false, true, false, 3, At::Chroma4(0), 0, 3),
+        (true, false, false, 2, At::Luma4(2), 0, 13),
+        (true, false, false, 2, At::Luma4(8), 1, 5),
+        (true, false, false, 3, At::Luma8(2), 1, 1),
+        (true, false, false, 3, At::Whole, 0, 0),
+        (true, true, false, 2, At::Luma4(8), 0, 13),
+        (true, true, false, 3, At::Whole, 1, 0),
+        (true, true, false, 3, At::Chroma4(1), 3, 0),
+        (false, true, true, 4, At::Luma4(2), 2, 5),
+        (false, true, true, 5, At::Luma4(2), 2, 13),
+        (false, true, true, 5, At::Chroma4(2), 2, 3),
     ] {
-        assert!(rt; at < 4 && is_place(place));
-        let found = left(&shape, &[skipped(left_field); 2], at, field, place);
+        assert!(rt; at < 6 && is_place(place));
+        let (first_mb, second_mb) = (skipped(first), skipped(second));
+        let done = [first_mb, first_mb, second_mb, second_mb];
         assert_eq!(rt;
-            found,
+            left(&shape, &done, at, field, place),
             spot(mb, block),
-            "{field} {left_field} {at} {place:?}"
+            "{field} {first} {second} {at} {place:?}"
         );
     }
-    assert_eq!(rt; left(&shape, &[], 1, false, At::Whole), None);
 }
 
 /// The pair below a frame or a field pair, by its macroblocks 2 and 3.
@@ -63,21 +68,6 @@ fn blocks_below_the_pair_above(rt: HostRuntime) {
             );
         }
     }
-    assert_eq!(rt; above(&shape, &[], 1, true, At::Whole), None);
-}
-
-/// A skipped pair beside a field pair is one too, so a frame pair beside it has the field pair's neighbours.
-#[test]
-fn a_frame_pair_beside_a_skipped_one(rt: HostRuntime) {
-    let shape = shape(3, 0, true);
-    let first = skipped(true);
-    let second = skipped(inferred_field(&shape, &[first; 2], 1));
-    assert!(rt; second.field);
-    let done = [first, first, second, second];
-    assert_eq!(rt; left(&shape, &done, 4, false, At::Luma4(2)), spot(2, 5));
-    assert_eq!(rt; left(&shape, &done, 5, false, At::Luma4(2)), spot(2, 13));
-    assert_eq!(rt; left(&shape, &done, 5, false, At::Chroma4(2)), spot(2, 3));
-    assert_eq!(rt; above(&shape, &done, 5, false, At::Chroma4(0)), spot(4, 2));
 }
 
 /// In rows of two pairs: the flags of the pairs before, and the flag of a pair that is skipped.

@@ -1,7 +1,5 @@
 //! The printed tables of CAVLC (Tables 9-4, 9-5 and 9-7 to 9-10) and the maps of 8x8 blocks (Table 9-43), against sums that were
 //! made from another copy of them.
-ghost use Rattle.std.specs.Prelude.{◌≤◌};
-
 use code_tables::{
     Code, code_of_pattern, coeff_token, last_map, pattern_of, run_before, sig_map, total_zeros,
 };
@@ -41,44 +39,35 @@ fn coeff_token_has_its_words(rt: HostRuntime) {
     }
 }
 
-fn sum_of_zeros(max: u8, total: u8) -> u64
-    requires { max ≤ 16 }
-{
-    let mut sum = 0;
-    for zeros in 0u8..16 {
-        sum = sum_with(sum, zeros, total_zeros(max, total, zeros));
-    }
-    sum
-}
-
 #[test]
 fn total_zeros_has_its_words(rt: HostRuntime) {
-    let columns = [
-        (1, 248_887),
-        (2, 152_357),
-        (3, 123_634),
-        (4, 95_473),
-        (5, 78_025),
-        (6, 63_385),
-        (7, 52_322),
-        (8, 41_539),
-        (9, 30_767),
-        (10, 21_031),
-        (11, 14_372),
-        (12, 9_486),
-        (13, 5_129),
-        (14, 2_309),
-        (15, 770),
-    ];
-    for (total, wanted) in columns {
-        assert_eq!(rt; sum_of_zeros(16, total), wanted, "at TotalCoeff {total}");
-    }
-    for (total, wanted) in [(1, 6_662), (2, 2_819), (3, 769)] {
-        assert_eq!(rt;
-            sum_of_zeros(4, total),
-            wanted,
-            "at TotalCoeff {total} of chroma DC"
-        );
+    // the number of levels of a block, TotalCoeff, and the sum
+    for (max, total, wanted) in [
+        (16, 1, 248_887),
+        (16, 2, 152_357),
+        (16, 3, 123_634),
+        (16, 4, 95_473),
+        (16, 5, 78_025),
+        (16, 6, 63_385),
+        (16, 7, 52_322),
+        (16, 8, 41_539),
+        (16, 9, 30_767),
+        (16, 10, 21_031),
+        (16, 11, 14_372),
+        (16, 12, 9_486),
+        (16, 13, 5_129),
+        (16, 14, 2_309),
+        (16, 15, 770),
+        (4, 1, 6_662),
+        (4, 2, 2_819),
+        (4, 3, 769),
+    ] {
+        assert!(rt; max <= 16);
+        let mut sum = 0;
+        for zeros in 0u8..16 {
+            sum = sum_with(sum, zeros, total_zeros(max, total, zeros));
+        }
+        assert_eq!(rt; sum, wanted, "at TotalCoeff {total} of {max}");
     }
 }
 

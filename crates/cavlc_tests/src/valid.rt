@@ -187,18 +187,6 @@ fn elements_stand_where_they_are_sent(rt: HostRuntime) {
     }
 }
 
-#[test]
-fn macroblocks_lie_in_the_picture(rt: HostRuntime) {
-    let skip = Mb::without_elements(MbKind::Skip);
-    let mut shape = shape(SliceKind::P, 2, 1, false);
-    assert!(rt; valid(&shape, &[skip; 2]));
-    assert!(rt; !valid(&shape, &[skip; 3]));
-    assert!(rt; !valid(&shape, &[]));
-    shape.first = 1;
-    assert!(rt; valid(&shape, &[skip]));
-    assert!(rt; !valid(&shape, &[skip; 2]));
-}
-
 /// A skipped pair takes the flag of the field pair on its left, and a field macroblock of a frame has each reference
 /// twice.
 #[test]
@@ -222,5 +210,4 @@ fn pairs_have_one_flag(rt: HostRuntime) {
     ] {
         assert_eq!(rt; valid(&shape, &mbs), wanted, "{mbs:?}");
     }
-    assert!(rt; !valid(&shape, &[coded]));
 }

@@ -53,7 +53,7 @@ fn headers_say_what_was_put(rt: HostRuntime) -> Result<(), Fail> {
             &WEIGHTED,
             0x41,
             &WEIGHTED_TEXT,
-            [5, 0, 0, 0, 0, 0, 0, 0],
+            [0, 0, 0, 0, 0, 0, 0, 0],
             (SliceKind::P, [2, 0], 26, 77, 1),
         ),
         (
