@@ -6,7 +6,7 @@ use cabac_engine::{BinSink, BinSource};
 use std::alloc::{AllocError as Memory, Global};
 
 /// How a bin is coded.
-#[derive(Clone, Copy, Debug, PartialEq, Eq)]
+#[derive(Clone, Copy, PartialEq, Eq)]
 pub enum Kind {
     Context(u16),
     Bypass,
