@@ -3,4 +3,5 @@ pub mod CodeSteps
 pub mod Numbers
 pub mod Spelling
 pub mod OneString
+pub mod Each
 pub mod ElementStrings

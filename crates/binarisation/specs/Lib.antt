@@ -1,4 +1,5 @@
 pub mod BinString
+pub mod Each
 pub mod Codes
 pub mod MacroblockType
 pub mod Elements

@@ -1,5 +1,9 @@
 -- The increments of ctxIdx that rest on macroblocks before (9.3.3.1.1). The arguments are those of condTermFlagA and
 -- condTermFlagB.
+--
+-- An element that a macroblock doesn't send is 0 in it (h264_types, IsMacroblock): a skipped macroblock and I_PCM have no
+-- mb_qp_delta, an inter macroblock no intra_chroma_pred_mode, and one without transform_size_8x8_flag has none set. So the
+-- definitions ask for the value alone where the standard also asks whether it was sent.
 use Rattle.std.specs.Prelude.{◌≡◌, ℕ, ◌+◌, ◌-◌, ◌*◌, ◌<◌, ◌==◌, Bool, false, not, if◌then◌else◌, pos, List, slice_get}
 use Rattle.std.specs.Int.{from_bool}
 use Rattle.std.specs.Option.{option_map_or}

@@ -10,15 +10,15 @@ use Rattle.std.proofs.lemmas.Bool.Decides.{nat_tests}
 use Rattle.h264_types.specs.Kind.{is_intra, is_i_nxn, is_i_16x16, is_i_pcm}
 use Rattle.h264_types.specs.Macroblock.{pattern_of}
 use Rattle.h264_types.specs.Sizes.{HasSizes}
-use Rattle.h264_types.specs.Valid.{IsMacroblock, IsTyped, IsQpDelta, IsInterPredicted, IsListSent, IsLumaCoded, IsChromaCoded, IsWithin, is_ref0, takes_t8, list_is_used, ref_at, ref_bound, mvd_of, mvd_bound, sub_bound, sample_bound, dc_bound, luma_bound, chroma_dc_bound, chroma_ac_bound, mode_bound, chroma_mode_bound, pattern_bound}
+use Rattle.h264_types.specs.Valid.{IsMacroblock, IsTyped, IsQpDelta, IsInterPredicted, IsListSent, IsLumaCoded, IsChromaCoded, IsWithin, is_ref0, list_is_used, ref_at, ref_bound, mvd_of, mvd_bound, sub_bound, sample_bound, dc_bound, luma_bound, chroma_dc_bound, chroma_ac_bound, mode_bound, chroma_mode_bound, pattern_bound}
+use Rattle.h264_types.specs.Sent.{sends_t8_first, takes_t8, mode_count, sends_qp_delta}
 use Rattle.h264_types.specs.declared.macroblock.Mb.{Mb}
 use Rattle.h264_types.specs.declared.macroblock.MbKind.{MbKind}
 use Rattle.h264_types.specs.declared.macroblock.MbKind.TheVariants.{Skip, Intra, P, B}
 use Rattle.h264_types.specs.declared.macroblock.Pattern.{Pattern}
 use Rattle.h264_types.specs.declared.slice_shape.SliceShape.{SliceShape}
 use Rattle.cabac_mb_residual.specs.Levels.{without_levels}
-use Rattle.cabac_macroblock.specs.IntraPrediction.{sends_t8_first}
-use Rattle.cabac_macroblock.specs.MacroblockLayer.{sends_residual, of_type, without_samples}
+use Rattle.cabac_macroblock.specs.MacroblockLayer.{of_type, without_samples}
 use Rattle.cabac_macroblock.specs.Stages.{before_t8, before_qp_delta}
 
 -- ---- lists of one value
@@ -138,7 +138,7 @@ none_sent p luma chroma =
     let b : p.chroma ≡ 0 = grind (arith, nat_tests) in
     ap (λ n. record p { luma = n }) a ∙ ap (λ n. record none_coded { chroma = n }) b
 
-pub no_coding : (mb : Mb) → HasSizes mb → sends_residual mb ≡ false → IsQpDelta mb → IsLumaCoded mb → IsChromaCoded mb → mb ≡ before_qp_delta mb
+pub no_coding : (mb : Mb) → HasSizes mb → sends_qp_delta mb.kind mb.pattern ≡ false → IsQpDelta mb → IsLumaCoded mb → IsChromaCoded mb → mb ≡ before_qp_delta mb
 no_coding mb sizes unsent delta luma chroma =
     let parts = neither (is_i_16x16 mb.kind) (mb.pattern.luma == 0) (mb.pattern.chroma == 0) unsent in
     let small = rw unsent at delta.magnitude in
@@ -163,17 +163,15 @@ intra_takes direct8 Skip subs e = absurd cc
 intra_takes direct8 (P n) subs e = absurd cc
 intra_takes direct8 (B n) subs e = absurd cc
 
-pub t8_first : (shape : SliceShape) (mb : Mb) → is_intra mb.kind ≡ true → IsTyped shape mb → mb.t8 ≡ true → sends_t8_first shape mb ≡ true
-t8_first shape mb intra is set = by shape.t8_mode (is_i_nxn mb.kind) (not (mb.pattern.luma == 0)) (takes_t8 shape.direct8 mb.kind mb.subs) (intra_takes shape.direct8 mb.kind mb.subs intra) (is.t8 set)
+pub t8_first : (shape : SliceShape) (mb : Mb) → is_intra mb.kind ≡ true → IsTyped shape mb → mb.t8 ≡ true → sends_t8_first shape mb.kind ≡ true
+t8_first shape mb intra is set =
+    by (sends_t8_first shape mb.kind) shape.t8_mode (not (mb.pattern.luma == 0)) (takes_t8 shape.direct8 mb.kind mb.subs) (intra_takes shape.direct8 mb.kind mb.subs intra) (is.t8 set)
   where
-    by : (mode nxn some takes : Bool) → takes ≡ false → (mode && (nxn || (some && takes))) ≡ true → (mode && nxn) ≡ true
-    by true true some takes e h = refl
-    by true false true takes e h = e' takes e h
-      where
-        e' : (takes : Bool) → takes ≡ false → takes ≡ true → false ≡ true
-        e' takes e h = sym e ∙ h
-    by true false false takes e h = h
-    by false nxn some takes e h = h
+    by : (first mode some takes : Bool) → takes ≡ false → (first || (mode && (some && takes))) ≡ true → first ≡ true
+    by true mode some takes e h = refl
+    by false true true takes e h = sym e ∙ h
+    by false true false takes e h = h
+    by false false some takes e h = h
 
 -- the macroblock before its first element has its type alone
 pub typed_alone : (shape : SliceShape) (mb : Mb) (number : ℕ) → mb.kind ≡ Intra number → HasSizes mb → IsMacroblock shape mb → of_type mb.field number ≡ before_t8 (without_samples mb)
@@ -209,7 +207,7 @@ pcm_t8 shape mb kind is = by mb.t8 refl
     by false e = e
     by true e =
         let first = t8_first shape mb (ap is_intra kind) is e in
-        let none : sends_t8_first shape mb ≡ (shape.t8_mode && false) = ap (λ k. shape.t8_mode && is_i_nxn k) kind in
+        let none : sends_t8_first shape mb.kind ≡ (shape.t8_mode && false) = ap (λ k. shape.t8_mode && is_i_nxn k) kind in
         absurd (never shape.t8_mode (sym none ∙ first))
       where
         never : (b : Bool) → (b && false) ≡ true → ⊥
@@ -220,7 +218,7 @@ pub pcm_alone : (shape : SliceShape) (mb : Mb) → is_i_pcm mb.kind ≡ true →
 pcm_alone shape mb pcm sizes is =
     let kind : mb.kind ≡ Intra 25 = named_pcm mb.kind pcm in
     let other : is_i_16x16 mb.kind ≡ false = ap is_i_16x16 kind in
-    let mode_none : (k : ℕ) → mode_bound mb k ≡ 0 = λ k. ap (λ (kd : MbKind). cond (is_i_nxn kd && (not mb.t8 || nat_lt k 4)) 8 0) kind in
+    let mode_none : (k : ℕ) → mode_bound mb k ≡ 0 = λ k. ap (λ (kd : MbKind). cond (is_i_nxn kd && nat_lt k (mode_count mb.t8)) 8 0) kind in
     let chroma_none : chroma_mode_bound mb.kind ≡ 0 = ap chroma_mode_bound kind in
     let pattern_none : (n : ℕ) → pattern_bound mb.kind n ≡ 0 = λ n. ap (λ (kd : MbKind). pattern_bound kd n) kind in
     let modes : mb.modes ≡ replicate 16 0 = zero_numbers 16 mb.modes sizes.modes (λ k below. omega (arith, is.intra.modes k below, mode_none k)) in
@@ -228,7 +226,7 @@ pcm_alone shape mb pcm sizes is =
     let luma : mb.pattern.luma ≡ 0 = omega (arith, is.coded.pattern.luma, pattern_none 15) in
     let chroma : mb.pattern.chroma ≡ 0 = omega (arith, is.coded.pattern.chroma, pattern_none 2) in
     let pattern : mb.pattern ≡ none_coded = ap (λ n. record mb.pattern { luma = n }) luma ∙ ap (λ n. record none_coded { chroma = n }) chroma in
-    let unsent : sends_residual mb ≡ false = ap (λ b. b || not (mb.pattern.luma == 0 && mb.pattern.chroma == 0)) other ∙ ap (λ (p : Pattern). not (p.luma == 0 && p.chroma == 0)) pattern in
+    let unsent : sends_qp_delta mb.kind mb.pattern ≡ false = ap (λ b. b || not (mb.pattern.luma == 0 && mb.pattern.chroma == 0)) other ∙ ap (λ (p : Pattern). not (p.luma == 0 && p.chroma == 0)) pattern in
     let a : Mb = record (without_samples mb) { t8 = false } in
     let b : Mb = record a { modes = replicate 16 0; chroma_mode = 0 } in
     sym (ap (λ (m : Mb). record m { pcm = replicate 384 0 }) (no_coding mb sizes unsent is.coded.qp_delta is.coded.luma is.coded.chroma)

@@ -7,6 +7,7 @@ use Rattle.binarisation.specs.MacroblockType as types
 use Rattle.binarisation.proofs.Strings.{reads_then, reads_none, writes_then}
 use Rattle.h264_types.specs.Kind.{is_i_pcm}
 use Rattle.h264_types.specs.Slice.{IsInPicture}
+use Rattle.h264_types.specs.Sent.{sends_qp_delta}
 use Rattle.h264_types.specs.declared.macroblock.Mb.{Mb}
 use Rattle.h264_types.specs.declared.slice_shape.SliceShape.{SliceShape}
 use Rattle.cabac_contexts.specs.declared.term.Term.TheVariants.{OtherType}
@@ -15,7 +16,7 @@ use Rattle.cabac_mb_residual.specs.MacroblockResidual.{residual}
 use Rattle.cabac_mb_residual.specs.Levels.{without_levels}
 use Rattle.cabac_macroblock.specs.IntraPrediction.{intra_prediction}
 use Rattle.cabac_macroblock.specs.CodedBlockPattern.{pattern}
-use Rattle.cabac_macroblock.specs.MacroblockLayer.{sends_residual, qp_delta, coding, elements, of_type, macroblock_i}
+use Rattle.cabac_macroblock.specs.MacroblockLayer.{qp_delta, coding, elements, of_type, macroblock_i}
 use Rattle.cabac_macroblock.specs.Stages.{before_qp_delta}
 use Rattle.cabac_macroblock.proofs.Puts.{reads_put, writes_put}
 use Rattle.cabac_macroblock.proofs.WholeIncrements.{same_sum}
@@ -39,11 +40,11 @@ writes_delta step done at mb inc s t e first = writes_put step (syntax.qp_delta 
 
 -- ---- what is sent behind the pattern
 
-pub coding_sent : (shape : SliceShape) (done : List Mb) (at : ℕ) (mb : Mb) → sends_residual mb ≡ true → coding shape done at mb ≡ (qp_delta done at mb >>= residual shape done at)
+pub coding_sent : (shape : SliceShape) (done : List Mb) (at : ℕ) (mb : Mb) → sends_qp_delta mb.kind mb.pattern ≡ true → coding shape done at mb ≡ (qp_delta done at mb >>= residual shape done at)
 unfolding coding
 coding_sent shape done at mb e = rw e refl
 
-pub coding_unsent : (shape : SliceShape) (done : List Mb) (at : ℕ) (mb : Mb) → sends_residual mb ≡ false → coding shape done at mb ≡ Value mb
+pub coding_unsent : (shape : SliceShape) (done : List Mb) (at : ℕ) (mb : Mb) → sends_qp_delta mb.kind mb.pattern ≡ false → coding shape done at mb ≡ Value mb
 unfolding coding
 coding_unsent shape done at mb e = rw e refl
 

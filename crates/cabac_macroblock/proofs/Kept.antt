@@ -3,8 +3,8 @@ use Rattle.std.proofs.Common.{◌≡◌, ℕ, ◌+◌, ◌<◌, ◌≤◌, Bool,
 use Rattle.cabac_engine.specs.Bins.{Slot}
 use Rattle.binarisation.specs.BinString.{BinString, Value, Spells, ◌>>=◌}
 use Rattle.binarisation.proofs.OneString.{splits}
-use Rattle.cabac_mb_residual.specs.MacroblockResidual.{each}
-use Rattle.cabac_mb_residual.proofs.Each.{each_keeps}
+use Rattle.binarisation.specs.Each.{each}
+use Rattle.binarisation.proofs.Each.{each_keeps}
 
 abbrev pub Keeps : {A : Type 0} → (A → Type 0) → BinString A → Type 0
 Keeps {A} P string = (bins : List (Slot × Bool)) (value : A) → Spells string bins value → P value

@@ -6,17 +6,19 @@ use Rattle.binarisation.specs.BinString.{Value, Reads, ◌>>=◌}
 use Rattle.binarisation.specs.Elements as syntax
 use Rattle.binarisation.proofs.Spelling.{reads_gave}
 use Rattle.cabac_residual.specs.Block.{block}
-use Rattle.h264_types.specs.Kind.{is_i_nxn, is_i_16x16, is_i_pcm, sends_pattern}
+use Rattle.h264_types.specs.Kind.{is_i_nxn, is_i_16x16, is_i_pcm}
 use Rattle.h264_types.specs.Macroblock.{pattern_of}
+use Rattle.h264_types.specs.Sent.{sends_t8_first, mode_count, sends_pattern, sends_qp_delta}
 use Rattle.h264_types.specs.declared.macroblock.Mb.{Mb}
 use Rattle.h264_types.specs.declared.slice_shape.SliceShape.{SliceShape}
 use Rattle.cabac_contexts.specs.Terms.{has_luma}
 use Rattle.cabac_contexts.specs.Increments as incs
-use Rattle.cabac_mb_residual.specs.MacroblockResidual.{each, is_field, list, luma_dc, luma_cat, luma_max, luma4, filled, with_luma4, with_quarter, with_chroma_dc, with_chroma_block, quarter, chroma_dc, chroma_block, chroma_ac, residual}
+use Rattle.binarisation.specs.Each.{each}
+use Rattle.cabac_mb_residual.specs.MacroblockResidual.{is_field, list, luma_dc, luma_cat, luma_max, luma4, filled, with_luma4, with_quarter, with_chroma_dc, with_chroma_block, quarter, chroma_dc, chroma_block, chroma_ac, residual}
 use Rattle.cabac_mb_residual.specs.Levels.{without_levels}
-use Rattle.cabac_macroblock.specs.IntraPrediction.{sends_t8_first, transform_size, any_mode, mode_at, mode_count, modes, chroma_mode, intra_prediction}
+use Rattle.cabac_macroblock.specs.IntraPrediction.{transform_size, any_mode, mode_at, modes, chroma_mode, intra_prediction}
 use Rattle.cabac_macroblock.specs.CodedBlockPattern.{with_luma_bit, luma_bit, luma_bits, chroma_pattern, pattern}
-use Rattle.cabac_macroblock.specs.MacroblockLayer.{sends_residual, qp_delta, coding, elements}
+use Rattle.cabac_macroblock.specs.MacroblockLayer.{qp_delta, coding, elements}
 use Rattle.cabac_macroblock.specs.Stages.{before_t8, before_modes, before_chroma_mode, before_pattern, before_chroma_pattern, before_qp_delta}
 use Rattle.cabac_macroblock.proofs.Kept.{Keeps, keeps_value, keeps_then, keeps_put, keeps_if, keeps_each}
 
@@ -82,7 +84,7 @@ unfolding coding qp_delta
 coding_kept shape done at w mb is =
     let P : Mb → Type 0 = λ m. before_qp_delta m ≡ w in
     let delta = syntax.qp_delta (incs.qp_delta done at) >>= (λ d. Value (record mb { qp_delta = d })) in
-    keeps_if P (sends_residual mb) (delta >>= residual shape done at) (Value mb)
+    keeps_if P (sends_qp_delta mb.kind mb.pattern) (delta >>= residual shape done at) (Value mb)
     (keeps_then P P delta (residual shape done at) (keeps_put P (syntax.qp_delta (incs.qp_delta done at)) (λ d. record mb { qp_delta = d }) (λ d. is))
     (λ m h bins value g. ap (λ (n : Mb). record n { qp_delta = pos 0 }) (residual_kept shape done at (without_levels m) m refl bins value g) ∙ h))
     (keeps_value P mb is)
@@ -122,7 +124,7 @@ pub transform_size_kept : (shape : SliceShape) (done : List Mb) (at : ℕ) (w mb
 unfolding transform_size
 transform_size_kept shape done at w mb is =
     let P : Mb → Type 0 = λ m. before_t8 m ≡ w in
-    keeps_if P (sends_t8_first shape mb) (syntax.t8 (incs.t8 shape done at mb.field mb) >>= (λ flag. Value (record mb { t8 = flag }))) (Value mb)
+    keeps_if P (sends_t8_first shape mb.kind) (syntax.t8 (incs.t8 shape done at mb.field mb) >>= (λ flag. Value (record mb { t8 = flag }))) (Value mb)
     (keeps_put P (syntax.t8 (incs.t8 shape done at mb.field mb)) (λ flag. record mb { t8 = flag }) (λ flag. is)) (keeps_value P mb is)
 
 pub prediction_kept : (shape : SliceShape) (done : List Mb) (at : ℕ) (w mb : Mb) → before_t8 mb ≡ w → Keeps (λ m. before_t8 m ≡ w) (intra_prediction shape done at mb)

@@ -12,20 +12,22 @@ use Rattle.binarisation.specs.MacroblockType as types
 use Rattle.binarisation.proofs.OneString.{value_one, differ_one}
 use Rattle.binarisation.proofs.ElementStrings.{flag_one, mode_one, qp_delta_one, up_to_two_one, type_i_one}
 use Rattle.binarisation.proofs.ElementStrings as strings
-use Rattle.h264_types.specs.Kind.{is_i_nxn, is_i_pcm, sends_pattern}
+use Rattle.h264_types.specs.Kind.{is_i_nxn, is_i_pcm}
+use Rattle.h264_types.specs.Sent.{sends_t8_first, mode_count, sends_pattern, sends_qp_delta}
 use Rattle.h264_types.specs.declared.macroblock.Mb.{Mb}
 use Rattle.h264_types.specs.declared.macroblock.MbKind.TheVariants.{Intra}
 use Rattle.h264_types.specs.declared.slice_shape.SliceShape.{SliceShape}
 use Rattle.cabac_contexts.specs.Increments as incs
-use Rattle.cabac_mb_residual.specs.MacroblockResidual.{each, residual}
+use Rattle.binarisation.specs.Each.{each}
+use Rattle.cabac_mb_residual.specs.MacroblockResidual.{residual}
 use Rattle.cabac_mb_residual.specs.Levels.{without_levels}
-use Rattle.cabac_macroblock.specs.IntraPrediction.{sends_t8_first, transform_size, any_mode, mode_at, mode_count, modes, chroma_mode, intra_prediction}
+use Rattle.cabac_macroblock.specs.IntraPrediction.{transform_size, any_mode, mode_at, modes, chroma_mode, intra_prediction}
 use Rattle.cabac_macroblock.specs.CodedBlockPattern.{with_luma_bit, luma_bit, luma_bits, chroma_pattern, pattern}
-use Rattle.cabac_macroblock.specs.MacroblockLayer.{sends_residual, qp_delta, coding, elements, of_type, macroblock_i}
+use Rattle.cabac_macroblock.specs.MacroblockLayer.{qp_delta, coding, elements, of_type, macroblock_i}
 use Rattle.cabac_macroblock.specs.Stages.{before_t8, before_modes, before_chroma_mode, before_pattern, before_chroma_pattern, before_qp_delta}
 use Rattle.cabac_macroblock.proofs.Kept.{Keeps, keeps_value, keeps_then, keeps_put, keeps_if, keeps_each, keeps_from}
 use Rattle.cabac_macroblock.proofs.KeptElements.{residual_kept, coding_kept, pattern_kept, chroma_pattern_kept, chroma_mode_kept, modes_kept, elements_kept}
-use Rattle.cabac_mb_residual.proofs.Each.{then_one_where, each_one_where}
+use Rattle.binarisation.proofs.Each.{then_one_where, each_one_where}
 use Rattle.cabac_macroblock.proofs.OneStrings.{then_one_back, put_one, if_one}
 
 -- ---- what is absent stays so
@@ -34,7 +36,7 @@ pub size_settled : (shape : SliceShape) (done : List Mb) (at : ℕ) (mb : Mb) �
 unfolding transform_size
 size_settled shape done at mb is =
     let P : Mb → Type 0 = λ m. before_modes m ≡ m in
-    keeps_if P (sends_t8_first shape mb) (syntax.t8 (incs.t8 shape done at mb.field mb) >>= (λ flag. Value (record mb { t8 = flag }))) (Value mb)
+    keeps_if P (sends_t8_first shape mb.kind) (syntax.t8 (incs.t8 shape done at mb.field mb) >>= (λ flag. Value (record mb { t8 = flag }))) (Value mb)
     (keeps_put P (syntax.t8 (incs.t8 shape done at mb.field mb)) (λ flag. record mb { t8 = flag }) (λ flag. ap (λ (m : Mb). record m { t8 = flag }) is))
     (keeps_value P mb (ap before_modes (sym is) ∙ is))
 
@@ -81,7 +83,7 @@ pattern_settled shape done at mb is =
 size_one : (shape : SliceShape) (done : List Mb) (at : ℕ) (mb : Mb) → HasOneString (transform_size shape done at mb)
 unfolding transform_size
 size_one shape done at mb =
-    if_one (sends_t8_first shape mb) (syntax.t8 (incs.t8 shape done at mb.field mb) >>= (λ flag. Value (record mb { t8 = flag }))) (Value mb)
+    if_one (sends_t8_first shape mb.kind) (syntax.t8 (incs.t8 shape done at mb.field mb) >>= (λ flag. Value (record mb { t8 = flag }))) (Value mb)
     (put_one (syntax.t8 (incs.t8 shape done at mb.field mb)) (λ flag. record mb { t8 = flag }) (flag_one _) (λ a b e. ap (λ (m : Mb). m.t8) e)) (value_one mb)
 
 any_mode_one : HasOneString any_mode
@@ -228,7 +230,7 @@ delta_one done at mb = put_one (syntax.qp_delta (incs.qp_delta done at)) (λ del
 coding_one : (shape : SliceShape) (done : List Mb) (at : ℕ) (mb : Mb) → ((m : Mb) → HasOneString (residual shape done at (without_levels m))) → before_qp_delta mb ≡ mb → HasOneString (coding shape done at mb)
 unfolding coding
 coding_one shape done at mb each_residual is =
-    if_one (sends_residual mb) (qp_delta done at mb >>= residual shape done at) (Value mb)
+    if_one (sends_qp_delta mb.kind mb.pattern) (qp_delta done at mb >>= residual shape done at) (Value mb)
     (then_one_back (λ (m : Mb). without_levels m ≡ m) (qp_delta done at mb) (residual shape done at) without_levels (delta_settled done at mb is) (delta_one done at mb)
     (λ m h. subst (λ (n : Mb). HasOneString (residual shape done at n)) h (each_residual m)) (λ m h. residual_kept shape done at m m h))
     (value_one mb)

@@ -3,7 +3,7 @@ use Rattle.std.proofs.Common.{◌≡◌, Bool, true, false, cond, List, sym, ◌
 use Rattle.cabac_engine.specs.Bins.{Slot}
 use Rattle.binarisation.specs.BinString.{BinString, Value, Spells, ◌>>=◌, HasOneString}
 use Rattle.binarisation.proofs.OneString.{value_one}
-use Rattle.cabac_mb_residual.proofs.Each.{then_one_where}
+use Rattle.binarisation.proofs.Each.{then_one_where}
 use Rattle.cabac_macroblock.proofs.Kept.{Keeps}
 
 -- the value tells what it was made of

@@ -10,10 +10,11 @@ use Rattle.cabac_engine.specs.Bins.{Slot}
 use Rattle.binarisation.specs.BinString.{Value, Reads, Writes, ◌>>=◌}
 use Rattle.binarisation.specs.Elements.{pattern_luma, pattern_chroma}
 use Rattle.binarisation.proofs.Strings.{reads_none, Completes}
-use Rattle.h264_types.specs.Kind.{is_skip, is_i_pcm, is_i_16x16, sends_pattern}
+use Rattle.h264_types.specs.Kind.{is_skip, is_i_pcm, is_i_16x16}
 use Rattle.h264_types.specs.Macroblock.{pattern_of}
 use Rattle.h264_types.specs.Valid.{IsPattern}
 use Rattle.h264_types.specs.Slice.{IsInPicture}
+use Rattle.h264_types.specs.Sent.{sends_pattern}
 use Rattle.h264_types.specs.declared.macroblock.Mb.{Mb}
 use Rattle.h264_types.specs.declared.macroblock.MbKind.{MbKind}
 use Rattle.h264_types.specs.declared.macroblock.MbKind.TheVariants.{Skip, Intra, P, B}
@@ -22,7 +23,7 @@ use Rattle.h264_types.specs.declared.slice_shape.SliceShape.{SliceShape}
 use Rattle.mb_neighbours.specs.declared.place.At.TheVariants.{Luma8}
 use Rattle.cabac_contexts.specs.declared.term.Term.TheVariants.{NoLuma, Chroma, ChromaAc}
 use Rattle.cabac_contexts.specs.Increments as incs
-use Rattle.cabac_mb_residual.specs.MacroblockResidual.{each}
+use Rattle.binarisation.specs.Each.{each}
 use Rattle.cabac_macroblock.specs.CodedBlockPattern.{with_luma_bit, luma_bit, luma_bits, chroma_pattern, pattern}
 use Rattle.cabac_macroblock.specs.Stages.{before_qp_delta, before_chroma_pattern, before_pattern}
 use Rattle.cabac_macroblock.proofs.Puts.{reads_put, writes_put}

@@ -10,40 +10,41 @@ use Rattle.binarisation.proofs.Strings.{reads_then, reads_none, writes_then, Con
 use Rattle.h264_types.specs.Kind.{is_intra, is_i_nxn, is_i_pcm}
 use Rattle.h264_types.specs.Valid.{mode_bound, IsIntraPredicted}
 use Rattle.h264_types.specs.Slice.{IsInPicture}
+use Rattle.h264_types.specs.Sent.{sends_t8_first, mode_count}
 use Rattle.h264_types.specs.declared.macroblock.Mb.{Mb}
 use Rattle.h264_types.specs.declared.slice_shape.SliceShape.{SliceShape}
 use Rattle.cabac_contexts.specs.declared.term.Term.TheVariants.{ChromaMode, Transform8}
 use Rattle.cabac_contexts.specs.Increments as incs
-use Rattle.cabac_mb_residual.specs.MacroblockResidual.{each}
-use Rattle.cabac_macroblock.specs.IntraPrediction.{sends_t8_first, transform_size, any_mode, mode_at, mode_count, modes, chroma_mode}
+use Rattle.binarisation.specs.Each.{each}
+use Rattle.cabac_macroblock.specs.IntraPrediction.{transform_size, any_mode, mode_at, modes, chroma_mode}
 use Rattle.cabac_macroblock.specs.Stages.{before_t8, before_modes, before_chroma_mode, before_pattern}
 use Rattle.cabac_macroblock.proofs.Puts.{reads_put, writes_put}
 use Rattle.cabac_macroblock.proofs.WholeIncrements.{same_sum}
 
 -- ---- transform_size_8x8_flag
 
-pub reads_t8 : {S : Type 0} (step : S → Slot → Option Bool → S → Type 0) (shape : SliceShape) (done : List Mb) (at : ℕ) (mb made : Mb) (inc : ℕ) (flag : Bool) (s t : S) → sends_t8_first shape mb ≡ true → inc ≡ incs.t8 shape done at mb.field mb → made ≡ record mb { t8 = flag }
+pub reads_t8 : {S : Type 0} (step : S → Slot → Option Bool → S → Type 0) (shape : SliceShape) (done : List Mb) (at : ℕ) (mb made : Mb) (inc : ℕ) (flag : Bool) (s t : S) → sends_t8_first shape mb.kind ≡ true → inc ≡ incs.t8 shape done at mb.field mb → made ≡ record mb { t8 = flag }
     → Reads step (elements.t8 inc) (Some flag) s t → Reads step (transform_size shape done at mb) (Some made) s t
 unfolding transform_size
 reads_t8 step shape done at mb made inc flag s t sent e is first = rw sent (reads_put step (elements.t8 (incs.t8 shape done at mb.field mb)) (λ flag. record mb { t8 = flag }) flag made s t is (rw e at first))
 
-pub reads_t8_none : {S : Type 0} (step : S → Slot → Option Bool → S → Type 0) (shape : SliceShape) (done : List Mb) (at : ℕ) (mb : Mb) (inc : ℕ) (s t : S) → sends_t8_first shape mb ≡ true → inc ≡ incs.t8 shape done at mb.field mb
+pub reads_t8_none : {S : Type 0} (step : S → Slot → Option Bool → S → Type 0) (shape : SliceShape) (done : List Mb) (at : ℕ) (mb : Mb) (inc : ℕ) (s t : S) → sends_t8_first shape mb.kind ≡ true → inc ≡ incs.t8 shape done at mb.field mb
     → Reads step (elements.t8 inc) None s t → Reads step (transform_size shape done at mb) None s t
 unfolding transform_size
 reads_t8_none step shape done at mb inc s t sent e first = rw sent (reads_none step (elements.t8 (incs.t8 shape done at mb.field mb)) (λ flag. Value (record mb { t8 = flag })) s t (rw e at first))
 
-pub reads_t8_unsent : {S : Type 0} (step : S → Slot → Option Bool → S → Type 0) (shape : SliceShape) (done : List Mb) (at : ℕ) (mb : Mb) (s : S) → sends_t8_first shape mb ≡ false → Reads step (transform_size shape done at mb) (Some mb) s s
+pub reads_t8_unsent : {S : Type 0} (step : S → Slot → Option Bool → S → Type 0) (shape : SliceShape) (done : List Mb) (at : ℕ) (mb : Mb) (s : S) → sends_t8_first shape mb.kind ≡ false → Reads step (transform_size shape done at mb) (Some mb) s s
 unfolding transform_size
 reads_t8_unsent step shape done at mb s sent = rw sent (refl, refl)
 
-pub writes_t8 : {S : Type 0} (step : S → Slot → Bool → S → Type 0) (shape : SliceShape) (done : List Mb) (at : ℕ) (mb : Mb) (inc : ℕ) (s t : S) → IsInPicture shape at → sends_t8_first shape mb ≡ true → inc ≡ incs.t8 shape done at mb.field mb
+pub writes_t8 : {S : Type 0} (step : S → Slot → Bool → S → Type 0) (shape : SliceShape) (done : List Mb) (at : ℕ) (mb : Mb) (inc : ℕ) (s t : S) → IsInPicture shape at → sends_t8_first shape mb.kind ≡ true → inc ≡ incs.t8 shape done at mb.field mb
     → Writes step (elements.t8 inc) mb.t8 s t → Writes step (transform_size shape done at (before_t8 mb)) (before_modes mb) s t
 unfolding transform_size
 writes_t8 step shape done at mb inc s t inside sent e first =
     let same : inc ≡ incs.t8 shape done at mb.field (before_t8 mb) = e ∙ same_sum Transform8 shape done at mb.field mb (before_t8 mb) inside in
     rw sent (writes_put step (elements.t8 (incs.t8 shape done at mb.field (before_t8 mb))) (λ flag. record (before_t8 mb) { t8 = flag }) mb.t8 (before_modes mb) s t refl (rw same at first))
 
-pub writes_t8_unsent : {S : Type 0} (step : S → Slot → Bool → S → Type 0) (shape : SliceShape) (done : List Mb) (at : ℕ) (mb : Mb) (s : S) → sends_t8_first shape mb ≡ false → (mb.t8 ≡ true → sends_t8_first shape mb ≡ true)
+pub writes_t8_unsent : {S : Type 0} (step : S → Slot → Bool → S → Type 0) (shape : SliceShape) (done : List Mb) (at : ℕ) (mb : Mb) (s : S) → sends_t8_first shape mb.kind ≡ false → (mb.t8 ≡ true → sends_t8_first shape mb.kind ≡ true)
     → Writes step (transform_size shape done at (before_t8 mb)) (before_modes mb) s s
 unfolding transform_size
 writes_t8_unsent step shape done at mb s sent only =
@@ -119,14 +120,13 @@ first_modes n xs most size none =
     let behind : drop n xs ≡ replicate (16 - n) 0 = all_zero (16 - n) (drop n xs) (length-drop n xs ∙ ap (λ l. l - n) size) (λ k below. omega (arith, none (n + k) (omega arith) (omega (arith, below)), get_or-drop n xs k 0)) in
     ap (λ l. take n xs ++ l) (sym behind) ∙ take-append-drop n xs
 
-no_mode : (t8 : Bool) (xs : List ℕ) → ((k : ℕ) → k < 16 → slice_index xs k ≤ cond (not t8 || nat_lt k 4) 8 0) → (k : ℕ) → mode_count t8 ≤ k → k < 16 → slice_index xs k ≤ 0
-no_mode true xs bound k least below = let no : nat_lt k 4 ≡ false = grind (arith, nat_tests) in let P : Bool → Type 0 = λ b. slice_index xs k ≤ cond b 8 0 in subst P no (bound k below)
-no_mode false xs bound k least below = absurd (omega (arith, least, below))
+no_mode : (count : ℕ) (xs : List ℕ) → ((k : ℕ) → k < 16 → slice_index xs k ≤ cond (nat_lt k count) 8 0) → (k : ℕ) → count ≤ k → k < 16 → slice_index xs k ≤ 0
+no_mode count xs bound k least below = let no : nat_lt k count ≡ false = grind (arith, nat_tests) in let P : Bool → Type 0 = λ b. slice_index xs k ≤ cond b 8 0 in subst P no (bound k below)
 
 -- all modes that are sent
 pub all_first : (mb : Mb) (n : ℕ) → n ≤ 16 → length mb.modes ≡ 16 → is_i_nxn mb.kind ≡ true → n ≡ mode_count mb.t8 → ((k : ℕ) → k < 16 → slice_index mb.modes k ≤ mode_bound mb k) → with_first n mb ≡ before_chroma_mode mb
 all_first mb n most size sent e bound =
-    ap (λ l. record (before_modes mb) { modes = l }) (first_modes n mb.modes most size (λ k least below. no_mode mb.t8 mb.modes (rw sent at bound) k (rw e at least) below))
+    ap (λ l. record (before_modes mb) { modes = l }) (first_modes n mb.modes most size (λ k least below. no_mode (mode_count mb.t8) mb.modes (rw sent at bound) k (rw e at least) below))
 
 -- where none is sent
 pub no_first : (mb : Mb) → length mb.modes ≡ 16 → is_i_nxn mb.kind ≡ false → ((k : ℕ) → k < 16 → slice_index mb.modes k ≤ mode_bound mb k) → before_modes mb ≡ before_chroma_mode mb

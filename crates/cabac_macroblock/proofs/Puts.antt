@@ -3,8 +3,8 @@ use Rattle.std.proofs.Common.{◌≡◌, ℕ, ◌+◌, ◌-◌, ◌<◌, Bool, O
 use Rattle.cabac_engine.specs.Bins.{Slot}
 use Rattle.binarisation.specs.BinString.{BinString, Value, Reads, Writes, ◌>>=◌}
 use Rattle.binarisation.proofs.Strings.{reads_then, reads_none, writes_then}
-use Rattle.cabac_mb_residual.proofs.Each.{each_next, reads_next, reads_end, writes_next, writes_end}
-use Rattle.cabac_mb_residual.specs.MacroblockResidual.{each}
+use Rattle.binarisation.proofs.Each.{each_next, reads_next, reads_end, writes_next, writes_end}
+use Rattle.binarisation.specs.Each.{each}
 
 pub unread : {S A : Type 0} (step : S → Slot → Option Bool → S → Type 0) (string : BinString A) (result : Option A) (s t : S) → result ≡ None → Reads step string None s t → Reads step string result s t
 unread {S} {A} step string result s t e read = subst (λ (r : Option A). Reads step string r s t) (sym e) read

@@ -9,16 +9,17 @@ use Rattle.std.proofs.lemmas.List.Elements.{All-replicate}
 use Rattle.binarisation.specs.BinString.{Value, ◌>>=◌}
 use Rattle.binarisation.specs.Elements as syntax
 use Rattle.binarisation.proofs.OneString.{splits}
-use Rattle.h264_types.specs.Kind.{is_i_nxn, sends_pattern}
+use Rattle.h264_types.specs.Kind.{is_i_nxn}
 use Rattle.h264_types.specs.Macroblock.{quarter_of}
 use Rattle.h264_types.specs.Sizes.{HasSizes}
 use Rattle.h264_types.specs.Valid.{mode_bound, pattern_bound, IsWithin, IsQuarterCoded, IsLumaCoded, IsChromaCoded}
+use Rattle.h264_types.specs.Sent.{sends_t8_first, mode_count, sends_pattern}
 use Rattle.h264_types.specs.declared.macroblock.Mb.{Mb}
 use Rattle.h264_types.specs.declared.slice_shape.SliceShape.{SliceShape}
 use Rattle.cabac_contexts.specs.Increments as incs
-use Rattle.cabac_mb_residual.specs.MacroblockResidual.{each}
+use Rattle.binarisation.specs.Each.{each}
 use Rattle.cabac_mb_residual.specs.Levels.{without_levels}
-use Rattle.cabac_macroblock.specs.IntraPrediction.{sends_t8_first, transform_size, any_mode, mode_at, mode_count, modes, chroma_mode}
+use Rattle.cabac_macroblock.specs.IntraPrediction.{transform_size, any_mode, mode_at, modes, chroma_mode}
 use Rattle.cabac_macroblock.specs.CodedBlockPattern.{with_luma_bit, luma_bit, luma_bits, chroma_pattern, pattern}
 use Rattle.cabac_macroblock.specs.Stages.{before_t8, before_modes, before_pattern, before_chroma_pattern}
 use Rattle.cabac_macroblock.proofs.Kept.{Keeps, keeps_value, keeps_put, keeps_put_of, keeps_when, keeps_upto, keeps_at}
@@ -30,12 +31,12 @@ use Rattle.cabac_macroblock.proofs.OneMacroblock.{IsLow, low_more}
 -- ---- transform_size_8x8_flag
 
 abbrev pub IsSized : SliceShape → Mb → Type 0
-IsSized shape m = m.t8 ≡ true → sends_t8_first shape m ≡ true
+IsSized shape m = m.t8 ≡ true → sends_t8_first shape m.kind ≡ true
 
 pub size_valid : (shape : SliceShape) (done : List Mb) (at : ℕ) (mb : Mb) → mb.t8 ≡ false → Keeps (IsSized shape) (transform_size shape done at mb)
 unfolding transform_size
 size_valid shape done at mb none =
-    keeps_when (IsSized shape) (sends_t8_first shape mb) (syntax.t8 (incs.t8 shape done at mb.field mb) >>= (λ flag. Value (record mb { t8 = flag }))) (Value mb)
+    keeps_when (IsSized shape) (sends_t8_first shape mb.kind) (syntax.t8 (incs.t8 shape done at mb.field mb) >>= (λ flag. Value (record mb { t8 = flag }))) (Value mb)
     (λ sent. keeps_put (IsSized shape) (syntax.t8 (incs.t8 shape done at mb.field mb)) (λ flag. record mb { t8 = flag }) (λ flag set. sent))
     (λ unsent. keeps_value (IsSized shape) mb (λ set. absurd (let clash : true ≡ false = sym set ∙ none in cc)))
 
@@ -66,13 +67,6 @@ put_first count w m j mode h most small is = record {
         rw (there, inside) small
     by k false e = rw (get_or-set_other m.modes j k mode 0 (grind (arith, nat_tests))) (is.range k)
 
-first_bound : (m : Mb) (k : ℕ) → is_i_nxn m.kind ≡ true → k < 16 → slice_index m.modes k ≤ cond (nat_lt k (mode_count m.t8)) 8 0 → slice_index m.modes k ≤ mode_bound m k
-first_bound m k nxn h is = rw nxn (by m.t8 is)
-  where
-    by : (t8 : Bool) → slice_index m.modes k ≤ cond (nat_lt k (mode_count t8)) 8 0 → slice_index m.modes k ≤ cond (not t8 || nat_lt k 4) 8 0
-    by true le = le
-    by false le = let inside : nat_lt k 16 ≡ true = grind (arith, nat_tests) in rw inside at le
-
 abbrev pub AreModes : Mb → Type 0
 AreModes m = (length m.modes ≡ 16) × ((k : ℕ) → k < 16 → slice_index m.modes k ≤ mode_bound m k)
 
@@ -96,7 +90,7 @@ modes_valid mb is = keeps_when AreModes (is_i_nxn mb.kind) (each (mode_count mb.
         (λ mode small. put_first count mb m j mode below (few mb.t8) small first)) count 0 mb (omega arith) start bins value h in
         let same_kind : value.kind ≡ mb.kind = ap (λ (m : Mb). m.kind) all.others in
         let same_t8 : value.t8 ≡ mb.t8 = ap (λ (m : Mb). m.t8) all.others in
-        (all.size, λ k below. first_bound value k (ap is_i_nxn same_kind ∙ nxn) below (subst (λ b. slice_index value.modes k ≤ cond (nat_lt k (mode_count b)) 8 0) (sym same_t8) (all.range k)))
+        (all.size, λ k below. rw (ap is_i_nxn same_kind ∙ nxn) (subst (λ b. slice_index value.modes k ≤ cond (nat_lt k (mode_count b)) 8 0) (sym same_t8) (all.range k)))
 
     unsent : is_i_nxn mb.kind ≡ false → Keeps AreModes (Value mb)
     unsent other = keeps_value AreModes mb (ap length zeros, λ k below. let zero_there : slice_index mb.modes k ≡ 0 = ap (λ l. slice_index l k) zeros ∙ zero_mode 16 k in omega (arith, zero_there))

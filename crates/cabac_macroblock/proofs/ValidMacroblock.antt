@@ -15,7 +15,8 @@ use Rattle.binarisation.specs.MacroblockType as types
 use Rattle.binarisation.proofs.OneString.{splits}
 use Rattle.h264_types.specs.Kind.{is_intra, is_i_nxn, is_i_16x16, is_i_pcm}
 use Rattle.h264_types.specs.Sizes.{HasSizes}
-use Rattle.h264_types.specs.Valid.{is_kind_in, sends_t8, takes_t8, sample_bound, ref_at, mvd_of, IsWithin, IsListSent, IsInterPredicted, IsQpDelta, IsMacroblock}
+use Rattle.h264_types.specs.Valid.{is_kind_in, sample_bound, ref_at, mvd_of, IsWithin, IsListSent, IsInterPredicted, IsQpDelta, IsMacroblock}
+use Rattle.h264_types.specs.Sent.{sends_t8_first, sends_t8_last, sends_t8, sends_qp_delta}
 use Rattle.h264_types.specs.declared.macroblock.Mb.{Mb}
 use Rattle.h264_types.specs.declared.macroblock.MbKind.{MbKind}
 use Rattle.h264_types.specs.declared.macroblock.MbKind.TheVariants.{Skip, Intra, P, B}
@@ -29,7 +30,7 @@ use Rattle.cabac_mb_residual.specs.MacroblockResidual.{residual}
 use Rattle.cabac_mb_residual.specs.Levels.{without_levels, IsResidual}
 use Rattle.cabac_macroblock.specs.IntraPrediction.{transform_size, modes, chroma_mode, intra_prediction}
 use Rattle.cabac_macroblock.specs.CodedBlockPattern.{pattern}
-use Rattle.cabac_macroblock.specs.MacroblockLayer.{sends_residual, qp_delta, coding, elements, of_type, macroblock_i}
+use Rattle.cabac_macroblock.specs.MacroblockLayer.{qp_delta, coding, elements, of_type, macroblock_i}
 use Rattle.cabac_macroblock.specs.Stages.{before_t8, before_modes, before_chroma_mode, before_pattern, before_qp_delta}
 use Rattle.cabac_macroblock.proofs.Kept.{Keeps, keeps_value, keeps_put_of, keeps_when}
 use Rattle.cabac_macroblock.proofs.KeptElements.{residual_kept, coding_kept, pattern_kept, chroma_mode_kept, modes_kept, elements_kept}
@@ -50,12 +51,12 @@ record IsCodedSo (m : Mb) : Type 0 where
   residual : IsResidual m
   sizes : HasSizes m
 
-no_quarter : (m : Mb) (q : ℕ) → sends_residual m ≡ false → has_luma m q ≡ false
+no_quarter : (m : Mb) (q : ℕ) → sends_qp_delta m.kind m.pattern ≡ false → has_luma m q ≡ false
 no_quarter m q unsent =
     let parts = neither (is_i_16x16 m.kind) (m.pattern.luma == 0) (m.pattern.chroma == 0) unsent in
     ap (λ (p : Pattern). bit_at p.luma q == 1) (other_pattern m m.kind parts.0 ∙ none_sent m.pattern parts.1 parts.2) ∙ ap (λ (b : ℕ). b == 1) (bit_at-zero q)
 
-uncoded : (field : Bool) (number : ℕ) (m : Mb) → sends_residual m ≡ false → before_qp_delta m ≡ m → before_t8 m ≡ of_type field number → length m.modes ≡ 16 → IsCodedSo m
+uncoded : (field : Bool) (number : ℕ) (m : Mb) → sends_qp_delta m.kind m.pattern ≡ false → before_qp_delta m ≡ m → before_t8 m ≡ of_type field number → length m.modes ≡ 16 → IsCodedSo m
 uncoded field number m unsent is whole size =
     let none : without_levels m ≡ m = ap without_levels (sym is) ∙ is in
     let delta : m.qp_delta ≡ pos 0 = ap (λ (n : Mb). n.qp_delta) (sym is) in
@@ -84,9 +85,9 @@ coding_valid : (shape : SliceShape) (done : List Mb) (at : ℕ) (field : Bool) (
     → Keeps IsCodedSo (coding shape done at mb)
 unfolding coding
 coding_valid shape done at field number mb law is whole size apart =
-    keeps_when IsCodedSo (sends_residual mb) (qp_delta done at mb >>= residual shape done at) (Value mb) sent (λ unsent. keeps_value IsCodedSo mb (uncoded field number mb unsent is whole size))
+    keeps_when IsCodedSo (sends_qp_delta mb.kind mb.pattern) (qp_delta done at mb >>= residual shape done at) (Value mb) sent (λ unsent. keeps_value IsCodedSo mb (uncoded field number mb unsent is whole size))
   where
-    sent : sends_residual mb ≡ true → Keeps IsCodedSo (qp_delta done at mb >>= residual shape done at)
+    sent : sends_qp_delta mb.kind mb.pattern ≡ true → Keeps IsCodedSo (qp_delta done at mb >>= residual shape done at)
     sent e bins value h =
         let parts = splits (qp_delta done at mb) (residual shape done at) bins value h in
         let m : Mb = parts.0 in
@@ -95,7 +96,7 @@ coding_valid shape done at field number mb law is whole size apart =
         let coded = law m parts.2 value sizes has.apart (subst (λ (x : Mb). Spells (residual shape done at x) parts.2 value) (sym has.none) parts.5) in
         let same : without_levels value ≡ m = residual_kept shape done at m m has.none parts.2 value parts.5 in
         let delta : value.qp_delta ≡ m.qp_delta = ap (λ (n : Mb). n.qp_delta) same in
-        let sends : sends_residual value ≡ true = ap sends_residual same ∙ ap sends_residual has.before ∙ e in
+        let sends : sends_qp_delta value.kind value.pattern ≡ true = ap (λ (x : Mb). sends_qp_delta x.kind x.pattern) same ∙ ap (λ (x : Mb). sends_qp_delta x.kind x.pattern) has.before ∙ e in
         record {
           delta = record { magnitude = rw sends (rw delta has.magnitude); greatest = rw delta has.greatest };
           residual = coded.0;
@@ -110,12 +111,11 @@ kind_in slices.P n e = e
 kind_in slices.B n e = e
 
 t8_sent : (shape : SliceShape) (m : Mb) → IsSized shape m → IsTrue m.t8 → IsTrue (sends_t8 shape m)
-t8_sent shape m is set = by shape.t8_mode (is_i_nxn m.kind) (not (m.pattern.luma == 0) && takes_t8 shape.direct8 m.kind m.subs) (is set)
+t8_sent shape m is set = by (sends_t8_first shape m.kind) (sends_t8_last shape m.kind m.subs m.pattern) (is set)
   where
-    by : (mode nxn other : Bool) → (mode && nxn) ≡ true → (mode && (nxn || other)) ≡ true
-    by true true other h = refl
-    by true false other h = absurd cc
-    by false nxn other h = absurd cc
+    by : (first last : Bool) → first ≡ true → (first || last) ≡ true
+    by true last h = refl
+    by false last h = absurd cc
 
 no_inter : (shape : SliceShape) (field : Bool) (number : ℕ) → IsInterPredicted shape (of_type field number)
 no_inter shape field number = record {

@@ -3,12 +3,12 @@ use Rattle.std.specs.Prelude.{ℕ, ◌+◌, ◌*◌, ◌^◌, Bool, true, false,
 use Rattle.std.specs.Int.{from_bool}
 use Rattle.binarisation.specs.BinString.{BinString, Value, ◌>>=◌}
 use Rattle.binarisation.specs.Elements.{pattern_luma, pattern_chroma}
-use Rattle.h264_types.specs.Kind.{sends_pattern}
 use Rattle.h264_types.specs.declared.macroblock.Mb.{Mb}
 use Rattle.h264_types.specs.declared.macroblock.Pattern.{Pattern}
 use Rattle.h264_types.specs.declared.slice_shape.SliceShape.{SliceShape}
 use Rattle.cabac_contexts.specs.Increments as inc
-use Rattle.cabac_mb_residual.specs.MacroblockResidual.{each}
+use Rattle.h264_types.specs.Sent.{sends_pattern}
+use Rattle.binarisation.specs.Each.{each}
 
 abbrev pub with_luma_bit : Pattern → ℕ → Bool → Pattern
 with_luma_bit pattern quarter bit = record pattern { luma = pattern.luma + 2 ^ quarter * from_bool bit }

@@ -1,11 +1,12 @@
 -- A macroblock of an I slice in CABAC, outside its pair flag and its samples (7.3.5): its elements are put into it one after
 -- another.
-use Rattle.std.specs.Prelude.{ℕ, ◌==◌, Bool, not, ◌&&◌, ◌||◌, if◌then◌else◌, List, replicate}
+use Rattle.std.specs.Prelude.{ℕ, Bool, if◌then◌else◌, List, replicate}
 use Rattle.binarisation.specs.BinString.{BinString, Value, ◌>>=◌}
 use Rattle.binarisation.specs.Elements as syntax
 use Rattle.binarisation.specs.MacroblockType as types
-use Rattle.h264_types.specs.Kind.{is_i_16x16, is_i_pcm}
+use Rattle.h264_types.specs.Kind.{is_i_pcm}
 use Rattle.h264_types.specs.Macroblock.{no_elements}
+use Rattle.h264_types.specs.Sent.{sends_qp_delta}
 use Rattle.h264_types.specs.declared.macroblock.Mb.{Mb}
 use Rattle.h264_types.specs.declared.macroblock.MbKind.TheVariants.{Intra}
 use Rattle.h264_types.specs.declared.slice_shape.SliceShape.{SliceShape}
@@ -14,15 +15,11 @@ use Rattle.cabac_mb_residual.specs.MacroblockResidual.{residual}
 use Rattle.cabac_macroblock.specs.IntraPrediction.{intra_prediction}
 use Rattle.cabac_macroblock.specs.CodedBlockPattern.{pattern}
 
--- mb_qp_delta and the residual stand in I_16x16, and where the pattern isn't 0
-abbrev pub sends_residual : Mb → Bool
-sends_residual mb = is_i_16x16 mb.kind || not (mb.pattern.luma == 0 && mb.pattern.chroma == 0)
-
 unfoldable pub qp_delta : List Mb → ℕ → Mb → BinString Mb
 qp_delta done at mb = syntax.qp_delta (inc.qp_delta done at) >>= (λ delta. Value (record mb { qp_delta = delta }))
 
 unfoldable pub coding : SliceShape → List Mb → ℕ → Mb → BinString Mb
-coding shape done at mb = if sends_residual mb then qp_delta done at mb >>= residual shape done at else Value mb
+coding shape done at mb = if sends_qp_delta mb.kind mb.pattern then qp_delta done at mb >>= residual shape done at else Value mb
 
 -- what follows mb_type, which for I_PCM are samples, and those are no bins
 unfoldable pub elements : SliceShape → List Mb → ℕ → Mb → BinString Mb

@@ -15,13 +15,6 @@ use cabac_mb_residual::{read_residual, write_residual};
 use h264_types::{Mb, SliceShape};
 use std::alloc::AllocError as Memory;
 
-/// Whether mb_qp_delta and the residual stand in a macroblock of this type with this pattern.
-fn sends_residual(mb: &Mb) -> bool
-    ensures { result ≡ layer.sends_residual mb.now }
-{
-    mb.kind.is_i_16x16() || !(mb.pattern.luma == 0 && mb.pattern.chroma == 0)
-}
-
 /// Reads mb_qp_delta.
 fn read_delta<S: BinSource>(
     s: &mut S,
@@ -54,7 +47,7 @@ pub fn read_coding<S: BinSource>(
     ensures reads { Reads S.step (layer.coding shape.now done.now at mb.old) (option_map (λ _. mb.new) result) s.old s.new }
     ensures going { OnSome result (S.over s.new ≡ false) }
 {
-    if sends_residual(mb) {
+    if mb.kind.sends_qp_delta(mb.pattern) {
         read_delta(s, shape, done, at, mb)?;
         read_residual(s, shape, done, at, mb)?;
     }
@@ -98,7 +91,7 @@ pub fn write_coding<S: BinSink>(
     ensures going { OnOk result (S.over s.new ≡ false) }
     ensures err { OnErr result (S.over s.new ≡ true) }
 {
-    if !sends_residual(mb) {
+    if !mb.kind.sends_qp_delta(mb.pattern) {
         return Ok(());
     }
     write_delta(s, shape, done, at, mb)?;

@@ -2,7 +2,7 @@
 ghost use Rattle.std.specs.Prelude.{◌≡◌, ◌+◌, ◌^◌, ◌<◌, ◌≤◌, length, option_map, false, true, OnOk, OnSome, OnErr};
 ghost use Rattle.binarisation.specs.BinString.{Reads, Writes};
 ghost use Rattle.h264_types.specs.Slice.{IsInPicture};
-ghost use Rattle.h264_types.specs.Kind.{sends_pattern};
+ghost use Rattle.h264_types.specs.Sent.{sends_pattern};
 ghost use Rattle.h264_types.specs.Valid.{IsPattern};
 ghost use Rattle.cabac_macroblock.specs.CodedBlockPattern as pattern;
 ghost use Rattle.cabac_macroblock.specs.Stages.{before_pattern, before_chroma_pattern, before_qp_delta};

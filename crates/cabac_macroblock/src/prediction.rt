@@ -1,6 +1,7 @@
 //! The prediction of intra macroblocks (ITU-T H.264, 7.3.5.1).
 ghost use Rattle.std.specs.Prelude.{◌≡◌, ◌<◌, ◌≤◌, ℕ, length, option_map, false, true, slice_index, IfSome, OnOk, OnSome, OnErr};
 ghost use Rattle.binarisation.specs.BinString.{Reads, Writes};
+ghost use Rattle.h264_types.specs.Sent.{sends_t8_first};
 ghost use Rattle.h264_types.specs.Slice.{IsInPicture};
 ghost use Rattle.h264_types.specs.Sizes.{HasSizes};
 ghost use Rattle.h264_types.specs.Valid.{mode_bound, IsIntraPredicted};
@@ -13,19 +14,11 @@ use binarisation::{
 };
 use cabac_contexts::ctx_inc_chroma_mode;
 use cabac_engine::{BinSink, BinSource};
-use h264_types::{Mb, SliceShape};
+use h264_types::{Mb, SliceShape, mode_count};
 use std::alloc::AllocError as Memory;
 
 /// The mode that stands for a prev_intra4x4_pred_mode_flag or prev_intra8x8_pred_mode_flag of 1.
 const PREDICTED: u8 = 8;
-
-/// How many modes are sent: one for each 8x8 block, or for each 4x4 block.
-fn mode_count(t8: bool) -> usize
-    ensures count { result ≡ intra.mode_count t8 }
-    ensures most { result ≤ 16 }
-{
-    if t8 { 4 } else { 16 }
-}
 
 /// Reads prev_intra4x4_pred_mode_flag, and rem_intra4x4_pred_mode where it is 0, or those of an 8x8 block.
 fn read_any_mode<S: BinSource>(s: &mut S) -> Option<u8>
@@ -158,7 +151,7 @@ pub fn write_prediction<S: BinSink>(
     requires picture { IsInPicture shape.now at }
     requires done { at ≤ length done.now }
     requires sizes { HasSizes mb.now }
-    requires t8 { mb.now.t8 ≡ true → intra.sends_t8_first shape.now mb.now ≡ true }
+    requires t8 { mb.now.t8 ≡ true → sends_t8_first shape.now mb.now.kind ≡ true }
     requires predicted { IsIntraPredicted mb.now }
     ensures writes { OnOk result (Writes S.step (intra.intra_prediction shape.now done.now at (before_t8 mb.now)) (before_pattern mb.now) s.old s.new) }
     ensures going { OnOk result (S.over s.new ≡ false) }

@@ -1,6 +1,7 @@
 //! transform_size_8x8_flag (ITU-T H.264, 7.3.5).
 ghost use Rattle.std.specs.Prelude.{◌≡◌, ◌≤◌, length, option_map, false, true, OnOk, OnSome, OnErr};
 ghost use Rattle.binarisation.specs.BinString.{Reads, Writes};
+ghost use Rattle.h264_types.specs.Sent.{sends_t8_first};
 ghost use Rattle.h264_types.specs.Slice.{IsInPicture};
 ghost use Rattle.cabac_macroblock.specs.IntraPrediction as intra;
 ghost use Rattle.cabac_macroblock.specs.Stages.{before_t8, before_modes};
@@ -10,13 +11,6 @@ use cabac_contexts::ctx_inc_t8;
 use cabac_engine::{BinSink, BinSource};
 use h264_types::{Mb, SliceShape};
 use std::alloc::AllocError as Memory;
-
-/// Whether transform_size_8x8_flag stands before the modes: of I_NxN.
-fn sends_t8_first(shape: &SliceShape, mb: &Mb) -> bool
-    ensures { result ≡ intra.sends_t8_first shape.now mb.now }
-{
-    shape.t8_mode && mb.kind.is_i_nxn()
-}
 
 /// Reads transform_size_8x8_flag of a macroblock whose type stands.
 pub fn read_transform_size<S: BinSource>(
@@ -33,7 +27,7 @@ pub fn read_transform_size<S: BinSource>(
     ensures going { OnSome result (S.over s.new ≡ false) }
     ensures others { mb.new ≡ record mb.old { t8 = mb.new.t8 } }
 {
-    if sends_t8_first(shape, mb) {
+    if shape.sends_t8_first(mb.kind) {
         mb.t8 = read_t8(s, ctx_inc_t8(shape, done, at, mb.field, mb))?;
     }
     Some(())
@@ -50,12 +44,12 @@ pub fn write_transform_size<S: BinSink>(
     requires going { S.over s.old ≡ false }
     requires picture { IsInPicture shape.now at }
     requires done { at ≤ length done.now }
-    requires sent { mb.now.t8 ≡ true → intra.sends_t8_first shape.now mb.now ≡ true }
+    requires sent { mb.now.t8 ≡ true → sends_t8_first shape.now mb.now.kind ≡ true }
     ensures writes { OnOk result (Writes S.step (intra.transform_size shape.now done.now at (before_t8 mb.now)) (before_modes mb.now) s.old s.new) }
     ensures going { OnOk result (S.over s.new ≡ false) }
     ensures err { OnErr result (S.over s.new ≡ true) }
 {
-    if sends_t8_first(shape, mb) {
+    if shape.sends_t8_first(mb.kind) {
         return write_t8(s, ctx_inc_t8(shape, done, at, mb.field, mb), mb.t8);
     }
     Ok(())

@@ -1,9 +1,7 @@
-pub mod Each
 pub mod Lists
 pub mod SoFar
 pub mod Flags
 pub mod Written
-pub mod BlockLevels
 pub mod Spelled
 pub mod OneString
 pub mod Validity

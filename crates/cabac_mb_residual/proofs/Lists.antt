@@ -15,7 +15,8 @@ use Rattle.binarisation.proofs.Strings.{reads_then, reads_none}
 use Rattle.cabac_contexts.specs.Increments.{coded_block}
 use Rattle.cabac_contexts.specs.Terms.{has_luma}
 use Rattle.cabac_residual.specs.Block.{block}
-use Rattle.cabac_mb_residual.specs.MacroblockResidual.{each, is_field, list, luma_dc, luma_cat, luma_max, filled, luma4, quarter, chroma_dc, chroma_block, chroma_ac, with_luma4, with_quarter, with_chroma_dc, with_chroma_block}
+use Rattle.binarisation.specs.Each.{each}
+use Rattle.cabac_mb_residual.specs.MacroblockResidual.{is_field, list, luma_dc, luma_cat, luma_max, filled, luma4, quarter, chroma_dc, chroma_block, chroma_ac, with_luma4, with_quarter, with_chroma_dc, with_chroma_block}
 
 -- a list that was read is put somewhere
 reads_put : {S U : Type 0} (step : S → Slot → Option Bool → S → Type 0) (string : BinString (List ℤ)) (put : List ℤ → Mb) (result : Option U) (levels : List ℤ) (new : Mb) (s t : S) → new ≡ put levels

@@ -10,9 +10,10 @@ use Rattle.binarisation.specs.BinString.{BinString, Value, Spells, ◌>>=◌, Ha
 use Rattle.binarisation.proofs.OneString.{splits, then_one, value_one}
 use Rattle.cabac_contexts.specs.Terms.{has_luma, chroma_dc_of, chroma_ac_of}
 use Rattle.cabac_residual.proofs.OneString.{block_one}
-use Rattle.cabac_mb_residual.specs.MacroblockResidual.{each, list, luma_dc, luma_cat, luma_max, filled, luma4, quarter, chroma_dc, chroma_block, chroma_ac, residual, with_luma4, with_quarter, with_chroma_dc, with_chroma_block}
-use Rattle.cabac_mb_residual.proofs.BlockLevels.{AreOf, block_levels}
-use Rattle.cabac_mb_residual.proofs.Each.{then_one_of, each_keeps, each_one}
+use Rattle.binarisation.specs.Each.{each}
+use Rattle.cabac_mb_residual.specs.MacroblockResidual.{list, luma_dc, luma_cat, luma_max, filled, luma4, quarter, chroma_dc, chroma_block, chroma_ac, residual, with_luma4, with_quarter, with_chroma_dc, with_chroma_block}
+use Rattle.cabac_residual.proofs.BlockLevels.{AreOf, block_levels}
+use Rattle.binarisation.proofs.Each.{then_one_of, each_keeps, each_one}
 use Rattle.cabac_mb_residual.proofs.Lists.{luma_dc-some, luma_dc-none, luma_max-most, quarter-none, quarter-eight, quarter-blocks, chroma_dc-some, chroma_dc-none, chroma_ac-none, chroma_ac-blocks}
 use Rattle.cabac_mb_residual.proofs.Spelled.{AreSized, sized-quarter, sized-luma4, own_luma4, other_luma4, sized-chroma_dc, sized-chroma_block, luma_max-some, filled-size, luma4-spelled, chroma_block-spelled, luma_dc-spelled, chroma_dc-spelled, SpellsQuarter, NoQuarter, Eight, Blocks, quarter-spelled}
 

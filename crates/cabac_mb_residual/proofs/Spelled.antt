@@ -13,9 +13,10 @@ use Rattle.h264_types.specs.declared.slice_shape.SliceShape.{SliceShape}
 use Rattle.binarisation.specs.BinString.{Spells}
 use Rattle.binarisation.proofs.OneString.{splits}
 use Rattle.cabac_contexts.specs.Terms.{has_luma}
-use Rattle.cabac_mb_residual.specs.MacroblockResidual.{each, list, luma_dc, luma_cat, luma_max, filled, luma4, quarter, chroma_dc, chroma_block, with_luma4, with_quarter, with_chroma_dc, with_chroma_block}
+use Rattle.binarisation.specs.Each.{each}
+use Rattle.cabac_mb_residual.specs.MacroblockResidual.{list, luma_dc, luma_cat, luma_max, filled, luma4, quarter, chroma_dc, chroma_block, with_luma4, with_quarter, with_chroma_dc, with_chroma_block}
 use Rattle.cabac_mb_residual.specs.Levels.{without_levels}
-use Rattle.cabac_mb_residual.proofs.BlockLevels.{AreOf, block_levels}
+use Rattle.cabac_residual.proofs.BlockLevels.{AreOf, block_levels}
 use Rattle.cabac_mb_residual.proofs.Lists.{luma_dc-some, luma_dc-none, quarter-none, quarter-eight, quarter-blocks, chroma_dc-some, chroma_dc-none}
 use Rattle.cabac_mb_residual.proofs.SoFar.{block_front, below, near}
 

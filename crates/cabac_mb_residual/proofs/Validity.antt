@@ -17,10 +17,11 @@ use Rattle.binarisation.specs.BinString.{Spells, ◌>>=◌}
 use Rattle.binarisation.proofs.OneString.{splits}
 use Rattle.cabac_contexts.specs.Terms.{has_luma}
 use Rattle.cabac_residual.specs.Block.{AreLevels}
-use Rattle.cabac_mb_residual.specs.MacroblockResidual.{each, luma_dc, luma_cat, luma_max, filled, luma4, quarter, chroma_dc, chroma_block, chroma_ac, residual, with_quarter}
+use Rattle.binarisation.specs.Each.{each}
+use Rattle.cabac_mb_residual.specs.MacroblockResidual.{luma_dc, luma_cat, luma_max, filled, luma4, quarter, chroma_dc, chroma_block, chroma_ac, residual, with_quarter}
 use Rattle.cabac_mb_residual.specs.Levels.{IsResidual, without_levels}
-use Rattle.cabac_mb_residual.proofs.BlockLevels.{AreOf, NotZeros}
-use Rattle.cabac_mb_residual.proofs.Each.{each_keeps}
+use Rattle.cabac_residual.proofs.BlockLevels.{AreOf, NotZeros}
+use Rattle.binarisation.proofs.Each.{each_keeps}
 use Rattle.cabac_mb_residual.proofs.Lists.{chroma_ac-none, chroma_ac-blocks}
 use Rattle.cabac_mb_residual.proofs.SoFar.{near}
 use Rattle.cabac_mb_residual.proofs.Spelled.{AreSized, sized-none, size_of-quarter, own_block, other_block, luma4-spelled, chroma_block-spelled, luma_dc-spelled, chroma_dc-spelled, SpellsQuarter, NoQuarter, Eight, Blocks, quarter-spelled}

@@ -17,7 +17,8 @@ use Rattle.cabac_contexts.specs.declared.term.Term.TheVariants.{LumaFlag}
 use Rattle.cabac_contexts.specs.Increments.{coded_block, weighted_of, flag_of, place_of}
 use Rattle.cabac_contexts.specs.Terms.{has_luma, chroma_dc_of, chroma_ac_of}
 use Rattle.cabac_residual.specs.Block.{block, AreLevels}
-use Rattle.cabac_mb_residual.specs.MacroblockResidual.{each, is_field, list, luma_dc, luma_cat, luma_max, filled, luma4, quarter, chroma_dc, chroma_block, chroma_ac, residual, with_luma4, with_quarter, with_chroma_dc, with_chroma_block}
+use Rattle.binarisation.specs.Each.{each}
+use Rattle.cabac_mb_residual.specs.MacroblockResidual.{is_field, list, luma_dc, luma_cat, luma_max, filled, luma4, quarter, chroma_dc, chroma_block, chroma_ac, residual, with_luma4, with_quarter, with_chroma_dc, with_chroma_block}
 use Rattle.cabac_mb_residual.specs.Levels.{IsResidual, so_far, without_levels}
 use Rattle.cabac_mb_residual.proofs.Flags.{dc_flag, luma_flag, chroma_dc_flag, chroma_ac_flag}
 use Rattle.cabac_mb_residual.proofs.Lists.{luma_dc-some, luma_dc-none, quarter-eight, quarter-none, quarter-blocks, chroma_dc-some, chroma_dc-none, chroma_ac-none, chroma_ac-blocks}

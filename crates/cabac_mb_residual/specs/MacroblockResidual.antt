@@ -1,21 +1,17 @@
 -- The residual of a macroblock (7.3.5.3, 7.3.5.3.1 to 7.3.5.3.3), as a string of bins.
 --
 -- Each list of levels is put into the macroblock, one after another, since coded_block_flag rests on the lists before it.
-use Rattle.std.specs.Prelude.{ℕ, zero, suc, ◌+◌, ◌-◌, ◌*◌, ◌/◌, ◌%◌, ◌==◌, Bool, not, ◌||◌, if◌then◌else◌, ℤ, pos, List, [], ◌++◌, length, replicate, slice_index_or, slice_set}
+use Rattle.std.specs.Prelude.{ℕ, ◌-◌, ◌*◌, ◌/◌, ◌%◌, ◌==◌, Bool, not, ◌||◌, if◌then◌else◌, ℤ, pos, List, [], ◌++◌, length, replicate, slice_index_or, slice_set}
 use Rattle.h264_types.specs.Kind.{is_i_16x16}
 use Rattle.h264_types.specs.Macroblock.{pattern_of, quarter_of, with_block}
 use Rattle.h264_types.specs.declared.macroblock.Mb.{Mb}
 use Rattle.h264_types.specs.declared.macroblock.MbKind.{MbKind}
 use Rattle.h264_types.specs.declared.slice_shape.SliceShape.{SliceShape}
 use Rattle.binarisation.specs.BinString.{BinString, Value, ◌>>=◌}
+use Rattle.binarisation.specs.Each.{each}
 use Rattle.cabac_residual.specs.Block.{block}
 use Rattle.cabac_contexts.specs.Increments.{coded_block}
 use Rattle.cabac_contexts.specs.Terms.{has_luma}
-
--- what f asks for at k, k + 1 and so on, of so many, one after another, each of what those before it made
-unfoldable pub each : {A : Type 0} → ℕ → (ℕ → A → BinString A) → ℕ → A → BinString A
-each zero f k x = Value x
-each (suc n) f k x = f k x >>= each n f (k + 1)
 
 -- whether the contexts are those of field coding (Table 9-34)
 abbrev pub is_field : SliceShape → Mb → Bool

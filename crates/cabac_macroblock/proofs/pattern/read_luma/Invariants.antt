@@ -1,6 +1,6 @@
 use Rattle.std.proofs.Common.{◌≡◌, ◌-◌, ◌<◌, ◌^◌, false}
 use Rattle.binarisation.proofs.Strings.{Continues}
-use Rattle.cabac_mb_residual.specs.MacroblockResidual.{each}
+use Rattle.binarisation.specs.Each.{each}
 use Rattle.cabac_macroblock.specs.CodedBlockPattern.{luma_bit, luma_bits}
 use Rattle.cabac_macroblock.proofs.pattern.read_luma.Given as goal
 

@@ -1,7 +1,8 @@
 use Rattle.std.proofs.Common.{◌≡◌, ◌-◌, ◌≤◌, false}
 use Rattle.binarisation.proofs.Strings.{Continues}
-use Rattle.cabac_mb_residual.specs.MacroblockResidual.{each}
-use Rattle.cabac_macroblock.specs.IntraPrediction.{mode_at, mode_count, modes}
+use Rattle.binarisation.specs.Each.{each}
+use Rattle.cabac_macroblock.specs.IntraPrediction.{mode_at, modes}
+use Rattle.h264_types.specs.Sent.{mode_count}
 use Rattle.cabac_macroblock.proofs.prediction.read_modes.Given as goal
 
 abbrev pub invariant-loop-k : goal.invariant-loop-k

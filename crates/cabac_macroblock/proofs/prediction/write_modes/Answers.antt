@@ -1,8 +1,9 @@
 use Rattle.std.proofs.Common.{◌≡◌, ◌<◌, ◌≤◌, ◌+◌, sym, refl, ◌∙◌, arith}
-use Rattle.cabac_macroblock.specs.IntraPrediction.{mode_at, mode_count}
+use Rattle.cabac_macroblock.specs.IntraPrediction.{mode_at}
 use Rattle.cabac_macroblock.specs.Stages.{before_modes, before_chroma_mode}
 use Rattle.cabac_macroblock.proofs.Puts.{writes_each, writes_each_end}
 use Rattle.cabac_macroblock.proofs.PredictionSteps.{begins_writing, with_first, writes_mode_at, all_first, no_first, modes_unsent}
+use Rattle.h264_types.specs.Sent.{mode_count}
 use Rattle.cabac_macroblock.proofs.prediction.write_modes.Goals as goal
 
 pub loop-k-init : goal.loop-k-init
@@ -15,7 +16,7 @@ loop-k-init g c = record {
 pub loop-k-preserved : goal.loop-k-preserved
 loop-k-preserved g c =
     let mb = c.args.mb.now in
-    let inside : c.loop-k.k < mode_count mb.t8 = omega (arith, c.loop-k-test.true, c.mode_count-k-end.ensures.count) in
+    let inside : c.loop-k.k < mode_count mb.t8 = omega (arith, c.loop-k-test.true, c.mode_count-k-end.ensures) in
     record {
       going = c.in_ok-write_any_mode.ensures.going;
       most = omega (arith, inside);
@@ -28,8 +29,8 @@ loop-k-preserved g c =
 pub returns-after-loop-k-clause-writes : goal.returns-after-loop-k-clause-writes
 returns-after-loop-k-clause-writes g c =
     let mb = c.args.mb.now in
-    let end : c.loop-k.k ≡ mode_count mb.t8 = omega (arith, c.loop-k-test.false, c.mode_count-k-end.ensures.count, c.loop-k.invariant.most) in
-    let most : c.loop-k.k ≤ 16 = omega (arith, end, c.mode_count-k-end.ensures.count, c.mode_count-k-end.ensures.most) in
+    let end : c.loop-k.k ≡ mode_count mb.t8 = omega (arith, c.loop-k-test.false, c.mode_count-k-end.ensures, c.loop-k.invariant.most) in
+    let most : c.loop-k.k ≤ 16 = omega (arith, end, c.mode_count-k-end.ensures, c.mode_count-k-end.ensures.most) in
     c.loop-k.invariant.writes _ _ (writes_each_end g.S.BinSink.step mode_at (mode_count mb.t8) c.loop-k.k (with_first c.loop-k.k mb) (before_chroma_mode mb) _ end
     (all_first mb c.loop-k.k most c.requires.sizes.modes (sym c.is_i_nxn.ensures ∙ c.if-is_i_nxn.true) end c.requires.modes))
 

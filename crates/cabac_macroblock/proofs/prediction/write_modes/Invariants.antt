@@ -1,9 +1,10 @@
 use Rattle.std.proofs.Common.{◌≡◌, ◌-◌, ◌≤◌, false}
 use Rattle.binarisation.proofs.Strings.{Completes}
-use Rattle.cabac_mb_residual.specs.MacroblockResidual.{each}
-use Rattle.cabac_macroblock.specs.IntraPrediction.{mode_at, mode_count, modes}
+use Rattle.binarisation.specs.Each.{each}
+use Rattle.cabac_macroblock.specs.IntraPrediction.{mode_at, modes}
 use Rattle.cabac_macroblock.specs.Stages.{before_modes}
 use Rattle.cabac_macroblock.proofs.PredictionSteps.{with_first}
+use Rattle.h264_types.specs.Sent.{mode_count}
 use Rattle.cabac_macroblock.proofs.prediction.write_modes.Given as goal
 
 abbrev pub invariant-loop-k : goal.invariant-loop-k

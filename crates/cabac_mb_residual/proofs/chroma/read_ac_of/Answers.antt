@@ -1,6 +1,6 @@
 use Rattle.std.proofs.Common.{◌+◌, ◌-◌, refl, arith}
 use Rattle.cabac_mb_residual.specs.MacroblockResidual.{chroma_block}
-use Rattle.cabac_mb_residual.proofs.Each.{reads_next, reads_no_next, reads_end}
+use Rattle.binarisation.proofs.Each.{reads_next, reads_no_next, reads_end}
 use Rattle.cabac_mb_residual.proofs.Lists.{chroma_ac-none, chroma_ac-blocks, is_chroma, no_chroma}
 use Rattle.cabac_mb_residual.proofs.chroma.read_ac_of.Goals as goal
 

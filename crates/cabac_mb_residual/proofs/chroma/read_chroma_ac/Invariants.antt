@@ -1,6 +1,7 @@
 use Rattle.std.proofs.Common.{◌≡◌, ◌-◌, false}
 use Rattle.binarisation.proofs.Strings.{Continues}
-use Rattle.cabac_mb_residual.specs.MacroblockResidual.{each, chroma_ac}
+use Rattle.binarisation.specs.Each.{each}
+use Rattle.cabac_mb_residual.specs.MacroblockResidual.{chroma_ac}
 use Rattle.cabac_mb_residual.proofs.chroma.read_chroma_ac.Given as goal
 
 abbrev pub invariant-loop-comp : goal.invariant-loop-comp

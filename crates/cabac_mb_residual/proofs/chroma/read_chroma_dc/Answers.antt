@@ -1,6 +1,6 @@
 use Rattle.std.proofs.Common.{◌+◌, ◌-◌, arith}
 use Rattle.cabac_mb_residual.specs.MacroblockResidual.{chroma_dc}
-use Rattle.cabac_mb_residual.proofs.Each.{reads_next, reads_no_next, reads_end}
+use Rattle.binarisation.proofs.Each.{reads_next, reads_no_next, reads_end}
 use Rattle.cabac_mb_residual.proofs.chroma.read_chroma_dc.Goals as goal
 
 pub loop-comp-init : goal.loop-comp-init

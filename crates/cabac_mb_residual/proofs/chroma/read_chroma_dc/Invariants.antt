@@ -1,6 +1,7 @@
 use Rattle.std.proofs.Common.{◌≡◌, ◌-◌, false}
 use Rattle.binarisation.proofs.Strings.{Continues}
-use Rattle.cabac_mb_residual.specs.MacroblockResidual.{each, chroma_dc}
+use Rattle.binarisation.specs.Each.{each}
+use Rattle.cabac_mb_residual.specs.MacroblockResidual.{chroma_dc}
 use Rattle.cabac_mb_residual.proofs.chroma.read_chroma_dc.Given as goal
 
 abbrev pub invariant-loop-comp : goal.invariant-loop-comp

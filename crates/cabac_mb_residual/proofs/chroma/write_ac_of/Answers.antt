@@ -1,7 +1,7 @@
 use Rattle.std.proofs.Common.{◌≡◌, ◌+◌, ◌-◌, ◌*◌, refl, arith}
 use Rattle.cabac_mb_residual.specs.MacroblockResidual.{chroma_block}
 use Rattle.cabac_mb_residual.specs.Levels.{so_far}
-use Rattle.cabac_mb_residual.proofs.Each.{writes_next, writes_end}
+use Rattle.binarisation.proofs.Each.{writes_next, writes_end}
 use Rattle.cabac_mb_residual.proofs.Lists.{is_chroma, no_chroma}
 use Rattle.cabac_mb_residual.proofs.Written.{writes_chroma_blocks, writes_no_chroma_ac}
 use Rattle.cabac_mb_residual.proofs.chroma.write_ac_of.Goals as goal

@@ -1,6 +1,7 @@
 use Rattle.std.proofs.Common.{◌≡◌, ◌+◌, ◌-◌, ◌*◌, false}
 use Rattle.binarisation.proofs.Strings.{Completes}
-use Rattle.cabac_mb_residual.specs.MacroblockResidual.{each, chroma_block}
+use Rattle.binarisation.specs.Each.{each}
+use Rattle.cabac_mb_residual.specs.MacroblockResidual.{chroma_block}
 use Rattle.cabac_mb_residual.specs.Levels.{so_far}
 use Rattle.cabac_mb_residual.proofs.chroma.write_ac_of.Given as goal
 

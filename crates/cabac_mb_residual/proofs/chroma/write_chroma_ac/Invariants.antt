@@ -1,6 +1,7 @@
 use Rattle.std.proofs.Common.{◌≡◌, ◌-◌, ◌*◌, false}
 use Rattle.binarisation.proofs.Strings.{Completes}
-use Rattle.cabac_mb_residual.specs.MacroblockResidual.{each, chroma_ac}
+use Rattle.binarisation.specs.Each.{each}
+use Rattle.cabac_mb_residual.specs.MacroblockResidual.{chroma_ac}
 use Rattle.cabac_mb_residual.specs.Levels.{so_far}
 use Rattle.cabac_mb_residual.proofs.chroma.write_chroma_ac.Given as goal
 

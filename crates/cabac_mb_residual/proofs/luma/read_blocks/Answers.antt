@@ -1,6 +1,6 @@
 use Rattle.std.proofs.Common.{◌≡◌, ◌+◌, ◌-◌, ◌*◌, arith}
 use Rattle.cabac_mb_residual.specs.MacroblockResidual.{luma4}
-use Rattle.cabac_mb_residual.proofs.Each.{reads_next, reads_no_next, reads_end}
+use Rattle.binarisation.proofs.Each.{reads_next, reads_no_next, reads_end}
 use Rattle.cabac_mb_residual.proofs.luma.read_blocks.Goals as goal
 
 pub loop-k-init : goal.loop-k-init

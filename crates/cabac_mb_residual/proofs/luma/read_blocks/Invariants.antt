@@ -1,6 +1,7 @@
 use Rattle.std.proofs.Common.{◌≡◌, ◌+◌, ◌-◌, ◌*◌, false}
 use Rattle.binarisation.proofs.Strings.{Continues}
-use Rattle.cabac_mb_residual.specs.MacroblockResidual.{each, luma4}
+use Rattle.binarisation.specs.Each.{each}
+use Rattle.cabac_mb_residual.specs.MacroblockResidual.{luma4}
 use Rattle.cabac_mb_residual.proofs.luma.read_blocks.Given as goal
 
 abbrev pub invariant-loop-k : goal.invariant-loop-k

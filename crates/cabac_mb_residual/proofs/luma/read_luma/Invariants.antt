@@ -1,6 +1,7 @@
 use Rattle.std.proofs.Common.{◌≡◌, ◌-◌, false}
 use Rattle.binarisation.proofs.Strings.{Continues}
-use Rattle.cabac_mb_residual.specs.MacroblockResidual.{each, quarter}
+use Rattle.binarisation.specs.Each.{each}
+use Rattle.cabac_mb_residual.specs.MacroblockResidual.{quarter}
 use Rattle.cabac_mb_residual.proofs.luma.read_luma.Given as goal
 
 abbrev pub invariant-loop-quarter : goal.invariant-loop-quarter

@@ -1,6 +1,7 @@
 use Rattle.std.proofs.Common.{◌≡◌, ◌+◌, ◌-◌, ◌*◌, false}
 use Rattle.binarisation.proofs.Strings.{Completes}
-use Rattle.cabac_mb_residual.specs.MacroblockResidual.{each, luma4}
+use Rattle.binarisation.specs.Each.{each}
+use Rattle.cabac_mb_residual.specs.MacroblockResidual.{luma4}
 use Rattle.cabac_mb_residual.specs.Levels.{so_far}
 use Rattle.cabac_mb_residual.proofs.luma.write_blocks.Given as goal
 

@@ -1,7 +1,7 @@
 use Rattle.std.proofs.Common.{◌≡◌, ◌+◌, ◌-◌, ◌*◌, refl, arith}
 use Rattle.cabac_mb_residual.specs.MacroblockResidual.{quarter}
 use Rattle.cabac_mb_residual.specs.Levels.{so_far}
-use Rattle.cabac_mb_residual.proofs.Each.{writes_next, writes_end}
+use Rattle.binarisation.proofs.Each.{writes_next, writes_end}
 use Rattle.cabac_mb_residual.proofs.luma.write_luma.Goals as goal
 
 pub loop-quarter-init : goal.loop-quarter-init

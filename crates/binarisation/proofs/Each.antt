@@ -5,7 +5,7 @@ use Rattle.cabac_engine.specs.Bins.{Slot}
 use Rattle.binarisation.specs.BinString.{BinString, Spells, Reads, Writes, HasOneString, ◌>>=◌}
 use Rattle.binarisation.proofs.OneString.{splits, value_one}
 use Rattle.binarisation.proofs.Strings.{reads_then, reads_none, writes_then}
-use Rattle.cabac_mb_residual.specs.MacroblockResidual.{each}
+use Rattle.binarisation.specs.Each.{each}
 
 pub each_next : {A : Type 0} (f : ℕ → A → BinString A) (left rest k next : ℕ) (x : A) → left ≡ rest + 1 → next ≡ k + 1 → each left f k x ≡ (f k x >>= each rest f next)
 unfolding each
