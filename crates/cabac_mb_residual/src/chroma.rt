@@ -1,5 +1,6 @@
 ghost use Rattle.std.specs.Prelude.{◌≡◌, ◌<◌, ◌≤◌, ◌+◌, ◌*◌, false, true, length, option_map, OnOk, OnSome, OnErr};
 ghost use Rattle.binarisation.specs.BinString.{Reads, Writes};
+ghost use Rattle.binarisation.specs.Each.{each};
 ghost use Rattle.h264_types.specs.Macroblock.{pattern_of};
 ghost use Rattle.h264_types.specs.Sizes.{HasSizes};
 ghost use Rattle.h264_types.specs.Slice.{IsInPicture};
@@ -48,7 +49,7 @@ pub fn read_chroma_dc<S: BinSource>(
     requires going { S.over s.old ≡ false }
     requires picture { IsInPicture shape.now at }
     requires done { at ≤ length done.now }
-    ensures reads { Reads S.step (layer.each 2 (layer.chroma_dc shape.now done.now at) 0 mb.old) (option_map (λ _. mb.new) result) s.old s.new }
+    ensures reads { Reads S.step (each 2 (layer.chroma_dc shape.now done.now at) 0 mb.old) (option_map (λ _. mb.new) result) s.old s.new }
     ensures going { OnSome result (S.over s.new ≡ false) }
 {
     for comp in 0..2u8 {
@@ -117,7 +118,7 @@ pub fn read_chroma_ac<S: BinSource>(
     requires going { S.over s.old ≡ false }
     requires picture { IsInPicture shape.now at }
     requires done { at ≤ length done.now }
-    ensures reads { Reads S.step (layer.each 2 (layer.chroma_ac shape.now done.now at) 0 mb.old) (option_map (λ _. mb.new) result) s.old s.new }
+    ensures reads { Reads S.step (each 2 (layer.chroma_ac shape.now done.now at) 0 mb.old) (option_map (λ _. mb.new) result) s.old s.new }
     ensures going { OnSome result (S.over s.new ≡ false) }
 {
     for comp in 0..2u8 {
@@ -166,7 +167,7 @@ pub fn write_chroma_dc<S: BinSink>(
     requires done { at ≤ length done.now }
     requires sizes { HasSizes mb.now }
     requires residual { IsResidual mb.now }
-    ensures writes { OnOk result (Writes S.step (layer.each 2 (layer.chroma_dc shape.now done.now at) 0 (so_far 16 256 0 0 mb.now)) (so_far 16 256 8 0 mb.now) s.old s.new) }
+    ensures writes { OnOk result (Writes S.step (each 2 (layer.chroma_dc shape.now done.now at) 0 (so_far 16 256 0 0 mb.now)) (so_far 16 256 8 0 mb.now) s.old s.new) }
     ensures going { OnOk result (S.over s.new ≡ false) }
     ensures err { OnErr result (S.over s.new ≡ true) }
 {
@@ -244,7 +245,7 @@ pub fn write_chroma_ac<S: BinSink>(
     requires done { at ≤ length done.now }
     requires sizes { HasSizes mb.now }
     requires residual { IsResidual mb.now }
-    ensures writes { OnOk result (Writes S.step (layer.each 2 (layer.chroma_ac shape.now done.now at) 0 (so_far 16 256 8 0 mb.now)) (so_far 16 256 8 120 mb.now) s.old s.new) }
+    ensures writes { OnOk result (Writes S.step (each 2 (layer.chroma_ac shape.now done.now at) 0 (so_far 16 256 8 0 mb.now)) (so_far 16 256 8 120 mb.now) s.old s.new) }
     ensures going { OnOk result (S.over s.new ≡ false) }
     ensures err { OnErr result (S.over s.new ≡ true) }
 {

@@ -1,5 +1,6 @@
 ghost use Rattle.std.specs.Prelude.{◌≡◌, ◌<◌, ◌≤◌, ◌+◌, ◌*◌, ◌/◌, false, true, length, option_map, OnOk, OnSome, OnErr};
 ghost use Rattle.binarisation.specs.BinString.{Reads, Writes};
+ghost use Rattle.binarisation.specs.Each.{each};
 ghost use Rattle.cabac_contexts.specs.Terms as terms;
 ghost use Rattle.h264_types.specs.Sizes.{HasSizes};
 ghost use Rattle.h264_types.specs.Slice.{IsInPicture};
@@ -111,7 +112,7 @@ fn read_blocks<S: BinSource>(
     requires picture { IsInPicture shape.now at }
     requires done { at ≤ length done.now }
     requires quarter { quarter < 4 }
-    ensures reads { Reads S.step (layer.each 4 (layer.luma4 shape.now done.now at) (4 * quarter) mb.old) (option_map (λ _. mb.new) result) s.old s.new }
+    ensures reads { Reads S.step (each 4 (layer.luma4 shape.now done.now at) (4 * quarter) mb.old) (option_map (λ _. mb.new) result) s.old s.new }
     ensures going { OnSome result (S.over s.new ≡ false) }
 {
     for k in 0..4u8 {
@@ -157,7 +158,7 @@ pub fn read_luma<S: BinSource>(
     requires going { S.over s.old ≡ false }
     requires picture { IsInPicture shape.now at }
     requires done { at ≤ length done.now }
-    ensures reads { Reads S.step (layer.each 4 (layer.quarter shape.now done.now at) 0 mb.old) (option_map (λ _. mb.new) result) s.old s.new }
+    ensures reads { Reads S.step (each 4 (layer.quarter shape.now done.now at) 0 mb.old) (option_map (λ _. mb.new) result) s.old s.new }
     ensures going { OnSome result (S.over s.new ≡ false) }
 {
     for quarter in 0..4u8 {
@@ -233,7 +234,7 @@ fn write_blocks<S: BinSink>(
     requires sizes { HasSizes mb.now }
     requires residual { IsResidual mb.now }
     requires coded { terms.has_luma mb.now quarter ≡ true }
-    ensures writes { OnOk result (Writes S.step (layer.each 4 (layer.luma4 shape.now done.now at) (4 * quarter) (so_far 16 (64 * quarter) 0 0 mb.now)) (so_far 16 (64 * (quarter + 1)) 0 0 mb.now) s.old s.new) }
+    ensures writes { OnOk result (Writes S.step (each 4 (layer.luma4 shape.now done.now at) (4 * quarter) (so_far 16 (64 * quarter) 0 0 mb.now)) (so_far 16 (64 * (quarter + 1)) 0 0 mb.now) s.old s.new) }
     ensures going { OnOk result (S.over s.new ≡ false) }
     ensures err { OnErr result (S.over s.new ≡ true) }
 {
@@ -284,7 +285,7 @@ pub fn write_luma<S: BinSink>(
     requires done { at ≤ length done.now }
     requires sizes { HasSizes mb.now }
     requires residual { IsResidual mb.now }
-    ensures writes { OnOk result (Writes S.step (layer.each 4 (layer.quarter shape.now done.now at) 0 (so_far 16 0 0 0 mb.now)) (so_far 16 256 0 0 mb.now) s.old s.new) }
+    ensures writes { OnOk result (Writes S.step (each 4 (layer.quarter shape.now done.now at) 0 (so_far 16 0 0 0 mb.now)) (so_far 16 256 0 0 mb.now) s.old s.new) }
     ensures going { OnOk result (S.over s.new ≡ false) }
     ensures err { OnErr result (S.over s.new ≡ true) }
 {
