@@ -17,28 +17,11 @@ use Rattle.h264_types.specs.declared.macroblock.MbKind.{MbKind}
 use Rattle.h264_types.specs.declared.macroblock.MbKind.TheVariants.{Skip, Intra, P, B}
 use Rattle.h264_types.specs.declared.macroblock.Pattern.{Pattern}
 use Rattle.h264_types.specs.declared.slice_shape.SliceShape.{SliceShape}
+use Rattle.h264_types.proofs.Zeros.{all_same, zero_numbers, zero_of, zero_levels, zero_lists}
+use Rattle.h264_types.proofs.KindLaws.{unset, named_pcm, intra_takes_none, other_pattern}
 use Rattle.cabac_mb_residual.specs.Levels.{without_levels}
 use Rattle.cabac_macroblock.specs.MacroblockLayer.{of_type, without_samples}
 use Rattle.cabac_macroblock.specs.Stages.{before_t8, before_qp_delta}
-
--- ---- lists of one value
-
-all_same : {A : Type 0} (x : A) (n : ℕ) (xs : List A) → length xs ≡ n → All (λ y. y ≡ x) xs → xs ≡ replicate n x
-all_same x n xs e h = same_lists xs (replicate n x) (e ∙ sym (length-replicate n x)) (λ k d below. h k d below ∙ sym (get_or-replicate n k x d (omega (arith, below, e))))
-
-zero_numbers : (n : ℕ) (xs : List ℕ) → length xs ≡ n → ((k : ℕ) → k < n → slice_index xs k ≤ 0) → xs ≡ replicate n 0
-zero_numbers n xs e h = all_same 0 n xs e (λ k d below. get_or_default xs k d 0 below ∙ omega (arith, h k (omega (arith, below, e))))
-
-zero_of : (v : ℤ) → unsigned_abs v ≤ 0 → v ≡ pos 0
-zero_of (pos n) h = ap pos (omega arith)
-zero_of (negsuc n) h = absurd (omega arith)
-
-zero_levels : (n bound : ℕ) (xs : List ℤ) → bound ≡ 0 → length xs ≡ n → IsWithin bound xs → xs ≡ replicate n (pos 0)
-zero_levels n bound xs none e h = all_same (pos 0) n xs e (λ k d below. zero_of (get_or xs k d) (omega (arith, h k d below, none)))
-
-zero_lists : (m n bound : ℕ) (xss : List (List ℤ)) → bound ≡ 0 → length xss ≡ m → AllByRecursion (λ xs. length xs ≡ n) xss → All (IsWithin bound) xss → xss ≡ replicate m (replicate n (pos 0))
-zero_lists m n bound xss none e sizes h =
-    all_same (replicate n (pos 0)) m xss e (λ k d below. zero_levels n bound (get_or xss k d) none (All-from_recursion (λ xs. length xs ≡ n) xss sizes k d below) (h k d below))
 
 -- ---- inter prediction
 
@@ -83,12 +66,6 @@ no_mvds shape mb intra sizes is =
     (subst (IsWithin (mvd_bound mb x n)) there sent)))
 
 -- ---- levels
-
-pub other_pattern : (mb : Mb) (kind : MbKind) → is_i_16x16 kind ≡ false → pattern_of (record mb { kind = kind }) ≡ mb.pattern
-other_pattern mb (Intra n) e = rw e refl
-other_pattern mb Skip e = refl
-other_pattern mb (P n) e = refl
-other_pattern mb (B n) e = refl
 
 abbrev pub none_coded : Pattern
 none_coded = record { luma = 0; chroma = 0 }
@@ -153,19 +130,9 @@ intra_ref0 mb Skip e = absurd cc
 intra_ref0 mb (P n) e = absurd cc
 intra_ref0 mb (B n) e = absurd cc
 
-unset : (b c : Bool) → (IsTrue b → IsTrue c) → c ≡ false → b ≡ false
-unset false c h e = refl
-unset true c h e = let t : c ≡ true = h refl in absurd (cc (t, e))
-
-intra_takes : (direct8 : Bool) (kind : MbKind) (subs : List ℕ) → is_intra kind ≡ true → takes_t8 direct8 kind subs ≡ false
-intra_takes direct8 (Intra n) subs e = refl
-intra_takes direct8 Skip subs e = absurd cc
-intra_takes direct8 (P n) subs e = absurd cc
-intra_takes direct8 (B n) subs e = absurd cc
-
 pub t8_first : (shape : SliceShape) (mb : Mb) → is_intra mb.kind ≡ true → IsTyped shape mb → mb.t8 ≡ true → sends_t8_first shape mb.kind ≡ true
 t8_first shape mb intra is set =
-    by (sends_t8_first shape mb.kind) shape.t8_mode (not (mb.pattern.luma == 0)) (takes_t8 shape.direct8 mb.kind mb.subs) (intra_takes shape.direct8 mb.kind mb.subs intra) (is.t8 set)
+    by (sends_t8_first shape mb.kind) shape.t8_mode (not (mb.pattern.luma == 0)) (takes_t8 shape.direct8 mb.kind mb.subs) (intra_takes_none shape.direct8 mb.kind mb.subs (ap not intra)) (is.t8 set)
   where
     by : (first mode some takes : Bool) → takes ≡ false → (first || (mode && (some && takes))) ≡ true → first ≡ true
     by true mode some takes e h = refl
@@ -174,8 +141,8 @@ t8_first shape mb intra is set =
     by false false some takes e h = h
 
 -- the macroblock before its first element has its type alone
-pub typed_alone : (shape : SliceShape) (mb : Mb) (number : ℕ) → mb.kind ≡ Intra number → HasSizes mb → IsMacroblock shape mb → of_type mb.field number ≡ before_t8 (without_samples mb)
-typed_alone shape mb number kind sizes is =
+pub typed_alone : (shape : SliceShape) (mb : Mb) (number : ℕ) → mb.kind ≡ Intra number → IsMacroblock shape mb → of_type mb.field number ≡ before_t8 (without_samples mb)
+typed_alone shape mb number kind is =
     let intra : is_intra mb.kind ≡ true = ap is_intra kind in
     let ref0 : mb.ref0 ≡ false = unset mb.ref0 (is_ref0 mb) is.typed.ref0 (intra_ref0 mb mb.kind intra) in
     let a : Mb = of_type mb.field number in
@@ -183,22 +150,16 @@ typed_alone shape mb number kind sizes is =
     let c : Mb = record b { subs = mb.subs; refs = mb.refs } in
     ap (λ k. record a { kind = k }) (sym kind)
     ∙ ap (λ r. record a { kind = mb.kind; ref0 = r }) (sym ref0)
-    ∙ ap (λ l. record b { subs = l }) (sym (no_subs shape mb intra sizes is.inter))
-    ∙ ap (λ l. record b { subs = mb.subs; refs = l }) (sym (no_refs shape mb intra sizes is.inter))
-    ∙ ap (λ l. record c { mvd = l }) (sym (no_mvds shape mb intra sizes is.inter))
+    ∙ ap (λ l. record b { subs = l }) (sym (no_subs shape mb intra is.sizes is.inter))
+    ∙ ap (λ l. record b { subs = mb.subs; refs = l }) (sym (no_refs shape mb intra is.sizes is.inter))
+    ∙ ap (λ l. record c { mvd = l }) (sym (no_mvds shape mb intra is.sizes is.inter))
 
-pub no_samples : (shape : SliceShape) (mb : Mb) → is_i_pcm mb.kind ≡ false → HasSizes mb → IsMacroblock shape mb → mb ≡ without_samples mb
-no_samples shape mb other sizes is =
+pub no_samples : (shape : SliceShape) (mb : Mb) → is_i_pcm mb.kind ≡ false → IsMacroblock shape mb → mb ≡ without_samples mb
+no_samples shape mb other is =
     let none : sample_bound mb.kind ≡ 0 = ap (λ b. cond b 255 0) other in
-    ap (λ l. record mb { pcm = l }) (all_same 0 384 mb.pcm sizes.pcm (λ k d below. omega (arith, is.coded.pcm k d below, none)))
+    ap (λ l. record mb { pcm = l }) (all_same 0 384 mb.pcm is.sizes.pcm (λ k d below. omega (arith, is.coded.pcm k d below, none)))
 
 -- ---- I_PCM
-
-pub named_pcm : (kind : MbKind) → is_i_pcm kind ≡ true → kind ≡ Intra 25
-named_pcm (Intra n) e = let is : n ≡ 25 = grind (arith, nat_tests) in ap Intra is
-named_pcm Skip e = absurd cc
-named_pcm (P n) e = absurd cc
-named_pcm (B n) e = absurd cc
 
 pcm_t8 : (shape : SliceShape) (mb : Mb) → mb.kind ≡ Intra 25 → IsTyped shape mb → mb.t8 ≡ false
 pcm_t8 shape mb kind is = by mb.t8 refl
@@ -214,14 +175,14 @@ pcm_t8 shape mb kind is = by mb.t8 refl
         never true h = absurd cc
         never false h = absurd cc
 
-pub pcm_alone : (shape : SliceShape) (mb : Mb) → is_i_pcm mb.kind ≡ true → HasSizes mb → IsMacroblock shape mb → before_t8 (without_samples mb) ≡ without_samples mb
-pcm_alone shape mb pcm sizes is =
+pub pcm_alone : (shape : SliceShape) (mb : Mb) → is_i_pcm mb.kind ≡ true → IsMacroblock shape mb → before_t8 (without_samples mb) ≡ without_samples mb
+pcm_alone shape mb pcm is =
     let kind : mb.kind ≡ Intra 25 = named_pcm mb.kind pcm in
     let other : is_i_16x16 mb.kind ≡ false = ap is_i_16x16 kind in
     let mode_none : (k : ℕ) → mode_bound mb k ≡ 0 = λ k. ap (λ (kd : MbKind). cond (is_i_nxn kd && nat_lt k (mode_count mb.t8)) 8 0) kind in
     let chroma_none : chroma_mode_bound mb.kind ≡ 0 = ap chroma_mode_bound kind in
     let pattern_none : (n : ℕ) → pattern_bound mb.kind n ≡ 0 = λ n. ap (λ (kd : MbKind). pattern_bound kd n) kind in
-    let modes : mb.modes ≡ replicate 16 0 = zero_numbers 16 mb.modes sizes.modes (λ k below. omega (arith, is.intra.modes k below, mode_none k)) in
+    let modes : mb.modes ≡ replicate 16 0 = zero_numbers 16 mb.modes is.sizes.modes (λ k below. omega (arith, is.intra.modes k below, mode_none k)) in
     let chroma_mode : mb.chroma_mode ≡ 0 = omega (arith, is.intra.chroma_mode, chroma_none) in
     let luma : mb.pattern.luma ≡ 0 = omega (arith, is.coded.pattern.luma, pattern_none 15) in
     let chroma : mb.pattern.chroma ≡ 0 = omega (arith, is.coded.pattern.chroma, pattern_none 2) in
@@ -229,7 +190,7 @@ pcm_alone shape mb pcm sizes is =
     let unsent : sends_qp_delta mb.kind mb.pattern ≡ false = ap (λ b. b || not (mb.pattern.luma == 0 && mb.pattern.chroma == 0)) other ∙ ap (λ (p : Pattern). not (p.luma == 0 && p.chroma == 0)) pattern in
     let a : Mb = record (without_samples mb) { t8 = false } in
     let b : Mb = record a { modes = replicate 16 0; chroma_mode = 0 } in
-    sym (ap (λ (m : Mb). record m { pcm = replicate 384 0 }) (no_coding mb sizes unsent is.coded.qp_delta is.coded.luma is.coded.chroma)
+    sym (ap (λ (m : Mb). record m { pcm = replicate 384 0 }) (no_coding mb is.sizes unsent is.coded.qp_delta is.coded.luma is.coded.chroma)
     ∙ ap (λ x. before_qp_delta (record (without_samples mb) { t8 = x })) (pcm_t8 shape mb kind is.typed)
     ∙ ap (λ x. before_qp_delta (record a { modes = x })) modes
     ∙ ap (λ x. before_qp_delta (record a { modes = replicate 16 0; chroma_mode = x })) chroma_mode

@@ -29,6 +29,7 @@ use Rattle.cabac_macroblock.proofs.Kept.{Keeps, keeps_value, keeps_then, keeps_p
 use Rattle.cabac_macroblock.proofs.KeptElements.{residual_kept, coding_kept, pattern_kept, chroma_pattern_kept, chroma_mode_kept, modes_kept, elements_kept}
 use Rattle.binarisation.proofs.Each.{then_one_where, each_one_where}
 use Rattle.cabac_macroblock.proofs.OneStrings.{then_one_back, put_one, if_one}
+use Rattle.cabac_macroblock.proofs.PredictionSteps.{mode_count-most}
 
 -- ---- what is absent stays so
 
@@ -107,12 +108,8 @@ modes_one : (mb : Mb) → length mb.modes ≡ 16 → HasOneString (modes mb)
 unfolding modes mode_at
 modes_one mb size =
     if_one (is_i_nxn mb.kind) (each (mode_count mb.t8) mode_at 0 mb) (Value mb)
-    (each_one_where 16 IsModes HasMode mode_at one (λ k m below is. kept k m is) told (mode_count mb.t8) 0 mb (few mb.t8) size) (value_one mb)
+    (each_one_where 16 IsModes HasMode mode_at one (λ k m below is. kept k m is) told (mode_count mb.t8) 0 mb (omega (arith, mode_count-most mb.t8)) size) (value_one mb)
   where
-    few : (b : Bool) → 0 + mode_count b ≤ 16
-    few true = omega arith
-    few false = omega arith
-
     one : (k : ℕ) (m : Mb) → k < 16 → IsModes k m → HasOneString (mode_at k m)
     one k m h is =
         let inside : k < length m.modes = omega (arith, h, is) in

@@ -20,6 +20,7 @@ use Rattle.h264_types.specs.declared.macroblock.MbKind.{MbKind}
 use Rattle.h264_types.specs.declared.macroblock.MbKind.TheVariants.{Skip, Intra, P, B}
 use Rattle.h264_types.specs.declared.macroblock.Pattern.{Pattern}
 use Rattle.h264_types.specs.declared.slice_shape.SliceShape.{SliceShape}
+use Rattle.h264_types.proofs.KindLaws.{other_pattern, no_16x16}
 use Rattle.mb_neighbours.specs.declared.place.At.TheVariants.{Luma8}
 use Rattle.cabac_contexts.specs.declared.term.Term.TheVariants.{NoLuma, Chroma, ChromaAc}
 use Rattle.cabac_contexts.specs.Increments as incs
@@ -68,10 +69,7 @@ abbrev pub with_quarters : ℕ → Mb → Mb
 with_quarters quarter mb = record (before_pattern mb) { pattern = record { luma = mb.pattern.luma % 2 ^ quarter; chroma = 0 } }
 
 sent_pattern : (mb : Mb) (kind : MbKind) → sends_pattern kind ≡ true → pattern_of (record mb { kind = kind }) ≡ mb.pattern
-sent_pattern mb (Intra n) e = let none : is_i_16x16 (Intra n) ≡ false = grind (arith, nat_tests) in rw none refl
-sent_pattern mb Skip e = absurd cc
-sent_pattern mb (P n) e = refl
-sent_pattern mb (B n) e = refl
+sent_pattern mb kind e = other_pattern mb kind (no_16x16 kind e)
 
 low_bit : (luma quarter block : ℕ) → block < quarter → bit_at (luma % 2 ^ quarter) block ≡ bit_at luma block
 low_bit luma quarter block h =

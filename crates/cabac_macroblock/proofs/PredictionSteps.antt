@@ -13,6 +13,7 @@ use Rattle.h264_types.specs.Slice.{IsInPicture}
 use Rattle.h264_types.specs.Sent.{sends_t8_first, mode_count}
 use Rattle.h264_types.specs.declared.macroblock.Mb.{Mb}
 use Rattle.h264_types.specs.declared.slice_shape.SliceShape.{SliceShape}
+use Rattle.h264_types.proofs.Zeros.{zero_numbers}
 use Rattle.cabac_contexts.specs.declared.term.Term.TheVariants.{ChromaMode, Transform8}
 use Rattle.cabac_contexts.specs.Increments as incs
 use Rattle.binarisation.specs.Each.{each}
@@ -109,19 +110,18 @@ writes_mode_at step k mb s t size h first =
     writes_put step any_mode (λ m. record (with_first k mb) { modes = slice_set (with_first k mb).modes k m }) (slice_index mb.modes k) (with_first (k + 1) mb) s t
     (ap (λ l. record (before_modes mb) { modes = l }) (sym (next_first k mb.modes size h))) first
 
-all_zero : (n : ℕ) (xs : List ℕ) → length xs ≡ n → ((k : ℕ) → k < n → slice_index xs k ≤ 0) → xs ≡ replicate n 0
-all_zero n xs size none =
-    same_lists xs (replicate n 0) (size ∙ sym (length-replicate n 0))
-    (λ k d below. get_or_default xs k d 0 below ∙ (let zero : slice_index xs k ≡ 0 = omega (arith, none k (omega (arith, below, size))) in zero) ∙ sym (get_or-replicate n k 0 d (omega (arith, below, size))))
-
 -- the modes up to a place, where none behind them is other than 0
 first_modes : (n : ℕ) (xs : List ℕ) → n ≤ 16 → length xs ≡ 16 → ((k : ℕ) → n ≤ k → k < 16 → slice_index xs k ≤ 0) → take n xs ++ replicate (16 - n) 0 ≡ xs
 first_modes n xs most size none =
-    let behind : drop n xs ≡ replicate (16 - n) 0 = all_zero (16 - n) (drop n xs) (length-drop n xs ∙ ap (λ l. l - n) size) (λ k below. omega (arith, none (n + k) (omega arith) (omega (arith, below)), get_or-drop n xs k 0)) in
+    let behind : drop n xs ≡ replicate (16 - n) 0 = zero_numbers (16 - n) (drop n xs) (length-drop n xs ∙ ap (λ l. l - n) size) (λ k below. omega (arith, none (n + k) (omega arith) (omega (arith, below)), get_or-drop n xs k 0)) in
     ap (λ l. take n xs ++ l) (sym behind) ∙ take-append-drop n xs
 
 no_mode : (count : ℕ) (xs : List ℕ) → ((k : ℕ) → k < 16 → slice_index xs k ≤ cond (nat_lt k count) 8 0) → (k : ℕ) → count ≤ k → k < 16 → slice_index xs k ≤ 0
 no_mode count xs bound k least below = let no : nat_lt k count ≡ false = grind (arith, nat_tests) in let P : Bool → Type 0 = λ b. slice_index xs k ≤ cond b 8 0 in subst P no (bound k below)
+
+pub mode_count-most : (t8 : Bool) → mode_count t8 ≤ 16
+mode_count-most true = omega arith
+mode_count-most false = omega arith
 
 -- all modes that are sent
 pub all_first : (mb : Mb) (n : ℕ) → n ≤ 16 → length mb.modes ≡ 16 → is_i_nxn mb.kind ≡ true → n ≡ mode_count mb.t8 → ((k : ℕ) → k < 16 → slice_index mb.modes k ≤ mode_bound mb k) → with_first n mb ≡ before_chroma_mode mb
@@ -130,7 +130,7 @@ all_first mb n most size sent e bound =
 
 -- where none is sent
 pub no_first : (mb : Mb) → length mb.modes ≡ 16 → is_i_nxn mb.kind ≡ false → ((k : ℕ) → k < 16 → slice_index mb.modes k ≤ mode_bound mb k) → before_modes mb ≡ before_chroma_mode mb
-no_first mb size unsent bound = ap (λ l. record (before_modes mb) { modes = l }) (sym (all_zero 16 mb.modes size (rw unsent at bound)))
+no_first mb size unsent bound = ap (λ l. record (before_modes mb) { modes = l }) (sym (zero_numbers 16 mb.modes size (rw unsent at bound)))
 
 pub begins_reading : {S : Type 0} (step : S → Slot → Option Bool → S → Type 0) (mb : Mb) (s : S) → is_i_nxn mb.kind ≡ true → Continues step (modes mb) s (each (mode_count mb.t8 - 0) mode_at 0 mb) s
 unfolding modes

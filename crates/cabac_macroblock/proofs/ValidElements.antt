@@ -16,6 +16,7 @@ use Rattle.h264_types.specs.Valid.{mode_bound, pattern_bound, IsWithin, IsQuarte
 use Rattle.h264_types.specs.Sent.{sends_t8_first, mode_count, sends_pattern}
 use Rattle.h264_types.specs.declared.macroblock.Mb.{Mb}
 use Rattle.h264_types.specs.declared.slice_shape.SliceShape.{SliceShape}
+use Rattle.h264_types.proofs.Zeros.{zeros_within, zero_at}
 use Rattle.cabac_contexts.specs.Increments as incs
 use Rattle.binarisation.specs.Each.{each}
 use Rattle.cabac_mb_residual.specs.Levels.{without_levels}
@@ -27,6 +28,7 @@ use Rattle.cabac_macroblock.proofs.Values.{mode_range, chroma_mode_range, chroma
 use Rattle.cabac_macroblock.specs.MacroblockLayer.{of_type}
 use Rattle.cabac_macroblock.proofs.KeptElements.{luma_bits_kept, chroma_pattern_kept}
 use Rattle.cabac_macroblock.proofs.OneMacroblock.{IsLow, low_more}
+use Rattle.cabac_macroblock.proofs.PredictionSteps.{mode_count-most}
 
 -- ---- transform_size_8x8_flag
 
@@ -46,11 +48,6 @@ record AreFirst (count : ℕ) (w m : Mb) : Type 0 where
   others : before_modes m ≡ w
   size : length m.modes ≡ 16
   range : (k : ℕ) → slice_index m.modes k ≤ cond (nat_lt k count) 8 0
-
-pub zero_mode : (n k : ℕ) → slice_index (replicate n 0) k ≡ 0
-zero_mode zero k = refl
-zero_mode (suc n) zero = refl
-zero_mode (suc n) (suc k) = zero_mode n k
 
 put_first : (count : ℕ) (w m : Mb) (j mode : ℕ) → j < count → count ≤ 16 → mode ≤ 8 → AreFirst count w m → AreFirst count w (record m { modes = slice_set m.modes j mode })
 put_first count w m j mode h most small is = record {
@@ -77,23 +74,19 @@ modes_valid mb is = keeps_when AreModes (is_i_nxn mb.kind) (each (mode_count mb.
     zeros : mb.modes ≡ replicate 16 0
     zeros = ap (λ (m : Mb). m.modes) (sym is)
 
-    few : (b : Bool) → mode_count b ≤ 16
-    few true = omega arith
-    few false = omega arith
-
     sent : is_i_nxn mb.kind ≡ true → Keeps AreModes (each (mode_count mb.t8) mode_at 0 mb)
     sent nxn bins value h =
         let count : ℕ = mode_count mb.t8 in
-        let start : AreFirst count mb mb = record { others = is; size = ap length zeros; range = λ k. rw (zeros, zero_mode 16 k) (omega arith) } in
+        let start : AreFirst count mb mb = record { others = is; size = ap length zeros; range = λ k. rw (zeros, zero_at 16 k) (omega arith) } in
         let all : AreFirst count mb value =
         keeps_upto (AreFirst count mb) mode_at count (λ j m below first. keeps_put_of (λ n. n ≤ 8) (AreFirst count mb) any_mode (λ mode. record m { modes = slice_set m.modes j mode }) mode_range
-        (λ mode small. put_first count mb m j mode below (few mb.t8) small first)) count 0 mb (omega arith) start bins value h in
+        (λ mode small. put_first count mb m j mode below (mode_count-most mb.t8) small first)) count 0 mb (omega arith) start bins value h in
         let same_kind : value.kind ≡ mb.kind = ap (λ (m : Mb). m.kind) all.others in
         let same_t8 : value.t8 ≡ mb.t8 = ap (λ (m : Mb). m.t8) all.others in
         (all.size, λ k below. rw (ap is_i_nxn same_kind ∙ nxn) (subst (λ b. slice_index value.modes k ≤ cond (nat_lt k (mode_count b)) 8 0) (sym same_t8) (all.range k)))
 
     unsent : is_i_nxn mb.kind ≡ false → Keeps AreModes (Value mb)
-    unsent other = keeps_value AreModes mb (ap length zeros, λ k below. let zero_there : slice_index mb.modes k ≡ 0 = ap (λ l. slice_index l k) zeros ∙ zero_mode 16 k in omega (arith, zero_there))
+    unsent other = keeps_value AreModes mb (ap length zeros, λ k below. let zero_there : slice_index mb.modes k ≡ 0 = ap (λ l. slice_index l k) zeros ∙ zero_at 16 k in omega (arith, zero_there))
 
 -- ---- intra_chroma_pred_mode and the pattern
 
@@ -141,9 +134,6 @@ pattern_valid shape done at mb is =
         rw sends (omega (arith, luma, low), high)
 
 -- ---- levels that are 0
-
-pub zeros_within : (bound n : ℕ) → IsWithin bound (replicate n (pos 0))
-zeros_within bound n = All-replicate (λ value. unsigned_abs value ≤ bound) n (pos 0) (omega arith)
 
 zero_quarter : (m : Mb) (q : ℕ) → q < 4 → IsQuarterCoded (without_levels m) q
 zero_quarter m q h =

@@ -24,6 +24,8 @@ use Rattle.h264_types.specs.declared.macroblock.Pattern.{Pattern}
 use Rattle.h264_types.specs.declared.slice_shape.SliceKind.{SliceKind}
 use Rattle.h264_types.specs.declared.slice_shape.SliceKind.TheVariants as slices
 use Rattle.h264_types.specs.declared.slice_shape.SliceShape.{SliceShape}
+use Rattle.h264_types.proofs.Zeros.{zeros_within, zero_at}
+use Rattle.h264_types.proofs.KindLaws.{named_pcm, other_pattern}
 use Rattle.cabac_contexts.specs.Terms.{has_luma}
 use Rattle.cabac_contexts.specs.Increments as incs
 use Rattle.cabac_mb_residual.specs.MacroblockResidual.{residual}
@@ -36,9 +38,9 @@ use Rattle.cabac_macroblock.proofs.Kept.{Keeps, keeps_value, keeps_put_of, keeps
 use Rattle.cabac_macroblock.proofs.KeptElements.{residual_kept, coding_kept, pattern_kept, chroma_mode_kept, modes_kept, elements_kept}
 use Rattle.cabac_macroblock.proofs.OneMacroblock.{size_settled, modes_settled, mode_settled, pattern_settled}
 use Rattle.cabac_macroblock.proofs.CodingSteps.{elements_sent, elements_unsent}
-use Rattle.cabac_macroblock.proofs.Absent.{neither, none_sent, other_pattern, named_pcm}
+use Rattle.cabac_macroblock.proofs.Absent.{neither, none_sent}
 use Rattle.cabac_macroblock.proofs.Values.{delta_range, type_range}
-use Rattle.cabac_macroblock.proofs.ValidElements.{IsSized, AreModes, IsPatterned, size_valid, modes_valid, chroma_mode_valid, pattern_valid, zero_mode, zeros_within, zero_luma, zero_chroma, sized}
+use Rattle.cabac_macroblock.proofs.ValidElements.{IsSized, AreModes, IsPatterned, size_valid, modes_valid, chroma_mode_valid, pattern_valid, zero_luma, zero_chroma, sized}
 
 -- what is said of the residual
 abbrev pub IsResidualLaw : SliceShape → List Mb → ℕ → Type 0
@@ -128,7 +130,7 @@ no_inter shape field number = record {
     mb = of_type field number
 
     no_ref : (x : ℕ) → x < 2 → (q : ℕ) → ref_at mb x q ≡ 0
-    no_ref x h q = ap (λ (l : List ℕ). slice_index l q) (get_or-replicate 2 x (replicate 4 0) [] h) ∙ zero_mode 4 q
+    no_ref x h q = ap (λ (l : List ℕ). slice_index l q) (get_or-replicate 2 x (replicate 4 0) [] h) ∙ zero_at 4 q
 
     no_mvd : (x : ℕ) → x < 2 → (n : ℕ) → n < 16 → mvd_of mb x n ≡ replicate 2 (pos 0)
     no_mvd x h n below = ap (λ (l : List (List ℤ)). slice_index_or l n []) (get_or-replicate 2 x (replicate 16 (replicate 2 (pos 0))) [] h) ∙ get_or-replicate 16 n (replicate 2 (pos 0)) [] below
@@ -155,7 +157,7 @@ not_16x16 (B n) e = refl
 -- ---- the whole macroblock
 
 abbrev pub IsSpelled : SliceShape → Mb → Type 0
-IsSpelled shape m = IsMacroblock shape m × IsResidual m × HasSizes m
+IsSpelled shape m = IsMacroblock shape m × IsResidual m
 
 assemble : (shape : SliceShape) (field : Bool) (number : ℕ) (m : Mb) → nat_le number 25 ≡ true → is_i_pcm (Intra number) ≡ false → (field ≡ true → shape.mbaff ≡ true)
     → before_t8 m ≡ of_type field number → IsSized shape m → AreModes m → m.chroma_mode ≤ 3 → IsPatterned m → IsCodedSo m → IsSpelled shape m
@@ -167,6 +169,7 @@ assemble shape field number m small other mbaff whole size are mode patterned co
     let intra : is_intra m.kind ≡ true = ap is_intra kind in
     let pcm : m.pcm ≡ replicate 384 0 = ap (λ (n : Mb). n.pcm) whole in (
       record {
+        sizes = coded.sizes;
         typed = record {
           kind = subst (λ k. is_kind_in shape.kind k ≡ true) (sym kind) (kind_in shape.kind number small);
           ref0 = λ set. absurd (let clash : true ≡ false = sym set ∙ ref0 in cc);
@@ -184,7 +187,6 @@ assemble shape field number m small other mbaff whole size are mode patterned co
         };
       },
       coded.residual,
-      coded.sizes,
     )
 
 elements_valid : (shape : SliceShape) (done : List Mb) (at : ℕ) (field : Bool) (number : ℕ) → IsResidualLaw shape done at → nat_le number 25 ≡ true → is_i_pcm (Intra number) ≡ false → (field ≡ true → shape.mbaff ≡ true)

@@ -4,6 +4,7 @@ use Rattle.std.proofs.Math.Nat.{zero-mul}
 use Rattle.h264_types.specs.Slice.{IsInPicture}
 use Rattle.h264_types.specs.declared.macroblock.Mb.{Mb}
 use Rattle.h264_types.specs.declared.slice_shape.SliceShape.{SliceShape}
+use Rattle.h264_types.proofs.ShapeLaws.{wide}
 use Rattle.mb_neighbours.specs.Place.{IsPlace, number_of}
 use Rattle.mb_neighbours.specs.declared.place.At.{At}
 use Rattle.mb_neighbours.specs.declared.place.At.TheVariants.{Whole}
@@ -11,13 +12,6 @@ use Rattle.cabac_contexts.specs.declared.term.Term.{Term}
 use Rattle.cabac_contexts.specs.Terms.{term_of, flag_a, flag_b}
 use Rattle.cabac_contexts.specs.Increments.{sum, weighted, sum_of, weighted_of}
 use Rattle.cabac_contexts.proofs.Neighbours.{same_flag_a, same_flag_b}
-
-pub wide : (shape : SliceShape) (at : ℕ) → IsInPicture shape at → 0 < shape.width
-wide shape at h = by shape.width refl
-  where
-    by : (width : ℕ) → shape.width ≡ width → 0 < shape.width
-    by zero e = let none : shape.width * shape.height ≡ 0 = ap (λ w. w * shape.height) e ∙ zero-mul shape.height in absurd (omega (arith, none, h))
-    by (suc n) e = omega (arith, e)
 
 -- the macroblocks answer alike at the blocks before the place
 abbrev pub AnswersAlike : Term → Mb → Mb → At → Type 0

@@ -4,7 +4,6 @@ ghost use Rattle.std.specs.Prelude.{◌≡◌, ℕ, Bool, false, true, List};
 ghost use Rattle.cabac_engine.specs.Bins.{Slot};
 ghost use Rattle.binarisation.specs.BinString.{IsPrefixFree, HasOneString, Spells};
 ghost use Rattle.h264_types.specs.Kind.{is_intra, is_i_pcm};
-ghost use Rattle.h264_types.specs.Sizes.{HasSizes};
 ghost use Rattle.h264_types.specs.Valid.{IsMacroblock};
 ghost use Rattle.h264_types.specs.declared.macroblock.Mb.{Mb};
 ghost use Rattle.h264_types.specs.declared.slice_shape.SliceShape.{SliceShape};
@@ -25,7 +24,7 @@ pub fn each_macroblock_has_one_string()
 /// I_PCM macroblock has no element but those, and its samples are to come.
 pub fn what_is_spelled_is_valid()
     ensures valid { (shape : SliceShape) (done : List Mb) (at : ℕ) (field : Bool) (bins : List (Slot × Bool)) (mb : Mb) → Spells (macroblock_i shape done at field) bins mb
-        → is_i_pcm mb.kind ≡ false → (field ≡ true → shape.mbaff ≡ true) → IsMacroblock shape mb × IsResidual mb × HasSizes mb }
+        → is_i_pcm mb.kind ≡ false → (field ≡ true → shape.mbaff ≡ true) → IsMacroblock shape mb × IsResidual mb }
     ensures intra { (shape : SliceShape) (done : List Mb) (at : ℕ) (field : Bool) (bins : List (Slot × Bool)) (mb : Mb) → Spells (macroblock_i shape done at field) bins mb
         → (is_intra mb.kind ≡ true) × (mb.field ≡ field) }
     ensures pcm { (shape : SliceShape) (done : List Mb) (at : ℕ) (field : Bool) (bins : List (Slot × Bool)) (mb : Mb) → Spells (macroblock_i shape done at field) bins mb

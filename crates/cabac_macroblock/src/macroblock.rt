@@ -5,7 +5,6 @@ ghost use Rattle.h264_types.specs.Slice.{IsInPicture};
 ghost use Rattle.h264_types.specs.Kind.{is_intra, is_i_pcm};
 ghost use Rattle.h264_types.specs.declared.macroblock.MbKind.TheVariants.{Intra};
 ghost use Rattle.h264_types.specs.Valid.{IsMacroblock};
-ghost use Rattle.h264_types.specs.Sizes.{HasSizes};
 ghost use Rattle.cabac_mb_residual.specs.Levels.{IsResidual};
 ghost use Rattle.cabac_macroblock.specs.MacroblockLayer as layer;
 ghost use Rattle.cabac_macroblock.specs.Stages.{before_t8};
@@ -16,7 +15,7 @@ use crate::prediction::{read_prediction, write_prediction};
 use binarisation::{read_type_i, write_type_i};
 use cabac_contexts::ctx_inc_type_i;
 use cabac_engine::{BinSink, BinSource};
-use h264_types::{Mb, MbKind, SliceShape, has_sizes};
+use h264_types::{Mb, MbKind, SliceShape};
 use std::alloc::AllocError as Memory;
 
 /// Reads the elements behind mb_type of a macroblock that has its type and no other element.
@@ -78,7 +77,6 @@ fn write_elements<S: BinSink>(
     requires over { S.over s.old ≡ is_i_pcm mb.now.kind }
     requires picture { IsInPicture shape.now at }
     requires done { at ≤ length done.now }
-    requires sizes { HasSizes mb.now }
     requires valid { IsMacroblock shape.now mb.now }
     requires intra { is_intra mb.now.kind ≡ true }
     requires residual { IsResidual mb.now }
@@ -123,7 +121,6 @@ pub fn write_macroblock<S: BinSink>(
     ensures over { OnOk result (S.over s.new ≡ is_i_pcm mb.now.kind) }
     ensures err { OnErr result (S.over s.new ≡ true) }
 {
-    has_sizes(mb);
     let inc = ctx_inc_type_i(shape, done, at, mb.field, mb);
     write_type_i(s, inc, type_number(mb.kind))?;
     write_elements(s, shape, done, at, mb)

@@ -9,6 +9,7 @@ use Rattle.h264_types.specs.Sizes.{HasSizes}
 use Rattle.h264_types.specs.Slice.{IsInPicture}
 use Rattle.h264_types.specs.declared.macroblock.Mb.{Mb}
 use Rattle.h264_types.specs.declared.slice_shape.SliceShape.{SliceShape}
+use Rattle.h264_types.proofs.ShapeLaws.{wide}
 use Rattle.mb_neighbours.specs.Near.{left_of, above_of, IsBefore}
 use Rattle.mb_neighbours.specs.Place.{IsPlace, number_of}
 use Rattle.mb_neighbours.specs.declared.place.At.{At}
@@ -21,13 +22,6 @@ use Rattle.cabac_contexts.specs.Terms.{term_of, flag_at, has_luma, has_level, ch
 use Rattle.cabac_contexts.specs.Increments.{weighted, weighted_of, coded_block}
 use Rattle.cabac_mb_residual.specs.Levels.{so_far}
 use Rattle.cabac_mb_residual.proofs.SoFar.{four_get, two_get, quarters, quarter_size, block_of-first, first_all, ac_block, ac_blocks, chroma_ac_size}
-
-wide : (shape : SliceShape) (at : ℕ) → IsInPicture shape at → 0 < shape.width
-wide shape at h = some shape.width shape.height (shape.first + at) h
-  where
-    some : (width height n : ℕ) → n < width * height → 0 < width
-    some zero height n h = absurd (omega arith)
-    some (suc width) height n h = omega arith
 
 -- what a neighbour says, where two macroblocks say the same of the blocks before the place
 flag_at-same : (missing : Bool) (term : Term) (done : List Mb) (at : ℕ) (x y : Mb) (place : At) (found : Option Spot)

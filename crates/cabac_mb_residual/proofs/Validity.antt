@@ -13,6 +13,7 @@ use Rattle.h264_types.specs.Sizes.{HasSizes}
 use Rattle.h264_types.specs.Valid.{IsWithin, dc_bound, luma_bound, last_luma_bound, chroma_dc_bound, chroma_ac_bound}
 use Rattle.h264_types.specs.declared.macroblock.Mb.{Mb}
 use Rattle.h264_types.specs.declared.slice_shape.SliceShape.{SliceShape}
+use Rattle.h264_types.proofs.Zeros.{zeros_within}
 use Rattle.binarisation.specs.BinString.{Spells, ◌>>=◌}
 use Rattle.binarisation.proofs.OneString.{splits}
 use Rattle.cabac_contexts.specs.Terms.{has_luma}
@@ -29,9 +30,6 @@ use Rattle.cabac_mb_residual.proofs.OneString.{filled-sixteen, luma4-sized, quar
 
 within : (levels : List ℤ) (bound : ℕ) → bound ≡ 65535 → AreLevels levels → IsWithin bound levels
 within levels bound e small = λ k d h. let least = All-from_recursion (λ level. unsigned_abs level ≤ 65535) levels small k d h in omega (arith, least, e)
-
-none_within : (bound n : ℕ) → IsWithin bound (replicate n (pos 0))
-none_within bound n = All-replicate (λ value. unsigned_abs value ≤ bound) n (pos 0) (omega arith)
 
 -- ---- luma
 
@@ -91,7 +89,7 @@ filled-last w levels are = by (is_i_16x16 w.kind) are.size
         omega (arith, ap unsigned_abs (get_or_append_left levels (replicate (16 - length levels) (pos 0)) (pos 0) 15 (omega (arith, e))), level)
 
 filled-within : (w : Mb) (levels : List ℤ) → AreOf (luma_cat w.kind) (luma_max w.kind) levels → IsWithin 65535 (filled levels)
-filled-within w levels are = All-append (λ value. unsigned_abs value ≤ 65535) levels (replicate (16 - length levels) (pos 0)) (within levels 65535 refl are.small) (none_within 65535 (16 - length levels))
+filled-within w levels are = All-append (λ value. unsigned_abs value ≤ 65535) levels (replicate (16 - length levels) (pos 0)) (within levels 65535 refl are.small) (zeros_within 65535 (16 - length levels))
 
 coded_block : (levels block : List ℤ) (k last : ℕ) → k < 4 → length levels ≡ 64 → length block ≡ 16 → IsCoded 65535 last levels → IsWithin 65535 block → unsigned_abs (get_or block 15 (pos 0)) ≤ last → IsCoded 65535 last (with_block levels k block)
 coded_block levels block k last h e f coded small own = record {
@@ -238,7 +236,7 @@ sizes_of mb m sizes same sized =
 
 zeros_coded : (bound last : ℕ) (levels : List ℤ) → levels ≡ replicate 64 (pos 0) → IsCoded bound last levels
 zeros_coded bound last levels e = record {
-  all = subst (IsWithin bound) (sym e) (none_within bound 64);
+  all = subst (IsWithin bound) (sym e) (zeros_within bound 64);
   lasts = λ k h. let zero : get_or (block_of levels k) 15 (pos 0) ≡ pos 0 = last_of levels k ∙ ap (λ (l : List ℤ). get_or l (16 * k + 15) (pos 0)) e ∙ get_or-replicate 64 (16 * k + 15) (pos 0) (pos 0) (omega arith) in omega (arith, ap unsigned_abs zero);
 }
 
@@ -277,11 +275,11 @@ parts_valid shape done at mb b c d m bins others more last sizes plain f g h k =
     let second = quarters-kept shape done at b others c first.0 g in
     let third = chroma_dcs-kept shape done at c more d second.0 h in
     let fourth = chroma_acs-kept shape done at d last m third.0 k in
-    let luma_dc = luma_dc-end shape done at x bins b (none_within (dc_bound mb.kind) 16) f in
+    let luma_dc = luma_dc-end shape done at x bins b (zeros_within (dc_bound mb.kind) 16) f in
     let luma = luma-end shape done at b others c (luma-start mb b plain first.0 first.1) g in
-    let no_dc : HasDc x = All-replicate (IsWithin (chroma_dc_bound mb)) 2 (replicate 4 (pos 0)) (none_within (chroma_dc_bound mb) 4) in
+    let no_dc : HasDc x = All-replicate (IsWithin (chroma_dc_bound mb)) 2 (replicate 4 (pos 0)) (zeros_within (chroma_dc_bound mb) 4) in
     let dc = dc-end shape done at c more d (subst HasDc second.1 (subst HasDc first.1 no_dc)) h in
-    let no_ac : HasAc x = All-replicate (All (IsWithin (chroma_ac_bound mb))) 2 (replicate 4 (replicate 15 (pos 0))) (All-replicate (IsWithin (chroma_ac_bound mb)) 4 (replicate 15 (pos 0)) (none_within (chroma_ac_bound mb) 15)) in
+    let no_ac : HasAc x = All-replicate (All (IsWithin (chroma_ac_bound mb))) 2 (replicate 4 (replicate 15 (pos 0))) (All-replicate (IsWithin (chroma_ac_bound mb)) 4 (replicate 15 (pos 0)) (zeros_within (chroma_ac_bound mb) 15)) in
     let ac = ac-end shape done at d last m third.0 (subst HasAc third.1 (subst HasAc second.1 (subst HasAc first.1 no_ac))) k in
     let same : without_levels m ≡ without_levels mb = ap without_levels (sym fourth.1) ∙ ap without_levels (sym third.1) ∙ ap without_levels (sym second.1) ∙ ap without_levels (sym first.1) in
     (valid_of m b c d luma_dc luma dc fourth.0 ac.1 second.1 third.1 fourth.1, sizes_of mb m sizes same fourth.0, same)

@@ -10,6 +10,7 @@ use Rattle.h264_types.specs.Slice.{IsInPicture}
 use Rattle.h264_types.specs.Valid.{IsWithin, dc_bound, luma_bound, chroma_dc_bound, chroma_ac_bound}
 use Rattle.h264_types.specs.declared.macroblock.Mb.{Mb}
 use Rattle.h264_types.specs.declared.slice_shape.SliceShape.{SliceShape}
+use Rattle.h264_types.proofs.Zeros.{zero_of, zero_levels}
 use Rattle.mb_neighbours.specs.declared.place.At.TheVariants.{Luma4}
 use Rattle.binarisation.specs.BinString.{BinString, Value, Writes, ◌>>=◌}
 use Rattle.binarisation.proofs.Strings.{writes_then}
@@ -25,14 +26,6 @@ use Rattle.cabac_mb_residual.proofs.Lists.{luma_dc-some, luma_dc-none, quarter-e
 use Rattle.cabac_mb_residual.proofs.SoFar.{so_far-none, so_far-all, so_far-dc, so_far-no_dc, so_far-luma4, so_far-quarter, so_far-no_quarter, so_far-chroma_dc, so_far-no_chroma_dc, so_far-chroma_block, so_far-no_chroma_ac, quarter_size, chroma_dc_size, chroma_ac_sizes, chroma_ac_size}
 
 -- ---- ranges
-
-zero_of : (v : ℤ) → unsigned_abs v ≤ 0 → v ≡ pos 0
-zero_of (pos n) h = ap pos (omega arith)
-zero_of (negsuc n) h = absurd (omega arith)
-
-zeros : (bound n : ℕ) (levels : List ℤ) → bound ≡ 0 → length levels ≡ n → IsWithin bound levels → levels ≡ replicate n (pos 0)
-zeros bound n levels b e h =
-    same_lists levels (replicate n (pos 0)) (e ∙ sym (length-replicate n (pos 0))) (λ k d below. zero_of (get_or levels k d) (omega (arith, h k d below, b)) ∙ sym (get_or-replicate n k (pos 0) d (omega (arith, below, e))))
 
 small : (bound : ℕ) (levels : List ℤ) → bound ≤ 65535 → IsWithin bound levels → AreLevels levels
 small bound levels b h = recursion_from_All (λ level. unsigned_abs level ≤ 65535) levels (λ k d below. omega (arith, h k d below))
@@ -120,7 +113,7 @@ pub writes_no_luma_dc : {S : Type 0} (step : S → Slot → Bool → S → Type 
 unfolding so_far
 writes_no_luma_dc step shape done at mb s sizes is e =
     let none : dc_bound mb.kind ≡ 0 = ap (λ b. cond b 65535 0) e in
-    rw (luma_dc-none shape done at (so_far 0 0 0 0 mb) e) (so_far-no_dc mb (zeros (dc_bound mb.kind) 16 mb.dc none sizes.dc is.luma.dc), refl)
+    rw (luma_dc-none shape done at (so_far 0 0 0 0 mb) e) (so_far-no_dc mb (zero_levels 16 (dc_bound mb.kind) mb.dc none sizes.dc is.luma.dc), refl)
 
 pub writes_luma4 : {S : Type 0} (step : S → Slot → Bool → S → Type 0) (shape : SliceShape) (done : List Mb) (at n : ℕ) (mb : Mb) (cat inc max : ℕ) (field : Bool) (levels : List ℤ) (s t : S) → IsInPicture shape at → HasSizes mb → IsResidual mb → n < 16
     → cat ≡ luma_cat mb.kind → inc ≡ coded_block shape done at mb.field mb cat 0 n → field ≡ is_field shape mb → max ≡ luma_max mb.kind → levels ≡ take (luma_max mb.kind) (luma_block mb n)
@@ -149,7 +142,7 @@ unfolding so_far
 writes_no_quarter step shape done at q mb has s sizes is h b e =
     let none : luma_bound mb q ≡ 0 = ap (λ b. cond b 65535 0) (sym e ∙ b) in
     rw (quarter-none shape done at q (so_far 16 (64 * q) 0 0 mb) has b e)
-    (so_far-no_quarter mb q sizes h (zeros (luma_bound mb q) 64 (quarter_of mb q) none (quarter_size mb q sizes h) (is.luma.quarters q h).levels), refl)
+    (so_far-no_quarter mb q sizes h (zero_levels 64 (luma_bound mb q) (quarter_of mb q) none (quarter_size mb q sizes h) (is.luma.quarters q h).levels), refl)
 
 pub writes_blocks : {S : Type 0} (step : S → Slot → Bool → S → Type 0) (shape : SliceShape) (done : List Mb) (at q : ℕ) (mb : Mb) (has : Bool) (s t : S) → has ≡ true → has ≡ has_luma mb q → mb.t8 ≡ false
     → Writes step (each 4 (luma4 shape done at) (4 * q) (so_far 16 (64 * q) 0 0 mb)) (so_far 16 (64 * (q + 1)) 0 0 mb) s t → Writes step (quarter shape done at q (so_far 16 (64 * q) 0 0 mb)) (so_far 16 (64 * (q + 1)) 0 0 mb) s t
@@ -172,7 +165,7 @@ unfolding so_far
 writes_no_chroma_dc step shape done at comp mb s sizes is h e z =
     let none : chroma_dc_bound mb ≡ 0 = ap (λ n. cond (ltb 0 n) 65535 0) z in
     rw (chroma_dc-none shape done at comp (so_far 16 256 (4 * comp) 0 mb) e)
-    (so_far-no_chroma_dc mb comp sizes h (zeros (chroma_dc_bound mb) 4 (chroma_dc_of mb comp) none (chroma_dc_size mb comp sizes h) (is.chroma.dc comp [] (omega (arith, sizes.chroma_dc.0)))), refl)
+    (so_far-no_chroma_dc mb comp sizes h (zero_levels 4 (chroma_dc_bound mb) (chroma_dc_of mb comp) none (chroma_dc_size mb comp sizes h) (is.chroma.dc comp [] (omega (arith, sizes.chroma_dc.0)))), refl)
 
 pub writes_chroma_block : {S : Type 0} (step : S → Slot → Bool → S → Type 0) (shape : SliceShape) (done : List Mb) (at comp n : ℕ) (mb : Mb) (inc max : ℕ) (field : Bool) (levels : List ℤ) (s t : S) → IsInPicture shape at → HasSizes mb → comp < 2 → n < 4
     → inc ≡ coded_block shape done at mb.field mb 4 comp n → field ≡ is_field shape mb → max ≡ 15 → levels ≡ chroma_ac_of mb comp n
@@ -194,7 +187,7 @@ unfolding so_far
 writes_no_chroma_ac step shape done at comp mb s sizes is h e =
     let none : chroma_ac_bound mb ≡ 0 = ap (λ b. cond b 65535 0) e in
     rw (chroma_ac-none shape done at comp (so_far 16 256 8 (60 * comp) mb) e)
-    (so_far-no_chroma_ac mb comp sizes h (λ n k. zeros (chroma_ac_bound mb) 15 (chroma_ac_of mb comp n) none (chroma_ac_size mb comp n sizes h k) (ac_within mb comp n h k sizes is)), refl)
+    (so_far-no_chroma_ac mb comp sizes h (λ n k. zero_levels 15 (chroma_ac_bound mb) (chroma_ac_of mb comp n) none (chroma_ac_size mb comp n sizes h k) (ac_within mb comp n h k sizes is)), refl)
 
 -- ---- residual
 
