@@ -61,8 +61,8 @@ fn headers_say_what_was_put(rt: HostRuntime) -> Result<(), Fail> {
             &PLAIN,
             1,
             &MODIFIED_TEXT,
-            [1, 0, 0, 0, 0, 1, 0, 0],
-            (SliceKind::B, [2, 1], 26, 77, 1),
+            [1, 0, 0, -1, 0, 1, 0, 0],
+            (SliceKind::B, [2, 1], 25, 77, 1),
         ),
     ];
     for (sps, pps, nal, payload, elements, members) in rows {
