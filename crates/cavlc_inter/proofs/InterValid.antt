@@ -122,7 +122,7 @@ from_refs shape mb x are q below = by (has q) refl
 
 -- ---- vector differences
 
-difference_of : (d : ℤ) → unsigned_abs d ≤ 32767 → IsDifference d
+pub difference_of : (d : ℤ) → unsigned_abs d ≤ 32767 → IsDifference d
 difference_of d h = (omega (arith, ints), omega (arith, ints))
 
 of_difference : (d : ℤ) → IsDifference d → unsigned_abs d ≤ 32767

@@ -18,7 +18,7 @@ gap_more n h = omega arith
 pub not_aligned : (n : ℕ) → IsTrue false ↔ (n % 8 ≡ 0) → n % 8 ≢ 0
 not_aligned n h e = let f : false ≡ true = h.1 e in absurd cc
 
-flag_takes : (c : Cursor) (b : Bool) (d : Cursor) → element_at Flag c ≡ Some (b, d) → Takes (b ∷ []) c d
+pub flag_takes : (c : Cursor) (b : Bool) (d : Cursor) → element_at Flag c ≡ Some (b, d) → Takes (b ∷ []) c d
 flag_takes c b d e = ((element-inverts Flag).takes c b d e).1
 
 -- ---- reading

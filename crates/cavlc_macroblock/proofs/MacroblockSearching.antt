@@ -15,6 +15,7 @@ use Rattle.h264_types.specs.declared.macroblock.MbKind.{MbKind}
 use Rattle.h264_types.specs.declared.macroblock.Pattern.{Pattern}
 use Rattle.h264_types.specs.declared.slice_shape.SliceShape.{SliceShape}
 use Rattle.cavlc_inter.specs.Parts.{is_sent, repeated, IsElement, and_next, AreElements}
+use Rattle.cavlc_inter.proofs.InterValid.{difference_of}
 use Rattle.h264_types.proofs.Lists.{HasLists}
 use Rattle.cavlc_inter.specs.InterPrediction.{AreSubs, IsDifference, IsVector, no_vector, has_ref, has_mvd, parts_of, refs_of, mvds_of, greatest_of, active_refs, IsInter}
 use Rattle.cavlc_inter.proofs.SubLaws.{small_bound}
@@ -178,10 +179,6 @@ refs_in shape mb lists l0 l1 = (lists.refs, two_all (AreMany (λ i. i ≤ most_r
           omega (arith, get_or_default (refs_of x mb) k d 0 below, is.refs k q, used_bound (list_is_used mb x k) (shape.mbaff && mb.field) (slice_index shape.refs x), few)),
     )
 
-difference_in : (d : ℤ) → unsigned_abs d ≤ 32767 → IsDifference d
-difference_in (pos n) h = (omega (arith, ints), omega (arith, ints))
-difference_in (negsuc n) h = (omega (arith, ints), omega (arith, ints))
-
 mvd_most : (used : Bool) → (if used then 32767 else 0) ≤ 32767
 mvd_most true = omega arith
 mvd_most false = omega arith
@@ -193,7 +190,7 @@ mvds_in shape mb lists l0 l1 = (lists.mvd, two_all (AreMany Vector 16) [] mb.mvd
     vector x n h below is = (
       lists.vectors x n h below,
       recursion_from_All IsDifference (mvd_of mb x n) (λ k d inside.
-          difference_in (get_or (mvd_of mb x n) k d) (omega (arith, is.mvd n below k d inside, mvd_most (list_is_used mb x (n / 4))))),
+          difference_of (get_or (mvd_of mb x n) k d) (omega (arith, is.mvd n below k d inside, mvd_most (list_is_used mb x (n / 4))))),
     )
 
     list : (x : ℕ) → x < 2 → IsListSent shape mb x → AreMany Vector 16 (mvds_of x mb)

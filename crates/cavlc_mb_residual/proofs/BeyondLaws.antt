@@ -1,10 +1,12 @@
 -- Tests of each list of some.
-use Rattle.std.proofs.Common.{◌≡◌, ℕ, zero, suc, ◌-◌, ◌<◌, ◌≤◌, ◌++◌, ℤ, pos, Bool, true, false, List, [], ◌∷◌, length, take, drop, get_or, refl, sym, subst, arith}
-use Rattle.std.specs.Prelude.{replicate, ◌||◌}
+use Rattle.std.proofs.Common.{◌≡◌, ℕ, zero, suc, ◌-◌, ◌<◌, ◌≤◌, ℤ, pos, Bool, true, false, List, [], ◌∷◌, length, take, drop, get_or, refl, sym, subst, arith}
+use Rattle.std.specs.Prelude.{replicate}
 use Rattle.std.specs.List.{AllByRecursion, list_any}
+use Rattle.std.proofs.lemmas.Bool.{or_right}
 use Rattle.std.proofs.lemmas.List.{take-append-drop}
 use Rattle.bit_texts.specs.Texts.{AreTurns}
 use Rattle.cavlc_residual.specs.Coefficients.{magnitude}
+use Rattle.cavlc_residual.proofs.BlockLemmas.{all_append, small_zeros}
 use Rattle.h264_types.specs.declared.macroblock.Mb.{Mb}
 use Rattle.h264_types.specs.declared.macroblock.Pattern.{Pattern}
 use Rattle.h264_types.proofs.Lists.{two_all}
@@ -19,11 +21,7 @@ any_none test (x ∷ xs) h = rw (h 0 (omega arith)) (any_none test xs (λ m belo
 pub any_some : (test : List ℤ → Bool) (xs : List (List ℤ)) (i : ℕ) → i < length xs → test (get_or xs i []) ≡ true → list_any test xs ≡ true
 any_some test [] i h e = absurd (omega arith)
 any_some test (x ∷ xs) zero h e = rw e refl
-any_some test (x ∷ xs) (suc i) h e = or_true (test x) (list_any test xs) (any_some test xs i (omega arith) e)
-  where
-    or_true : (a b : Bool) → b ≡ true → (a || b) ≡ true
-    or_true true b e = refl
-    or_true false b e = e
+any_some test (x ∷ xs) (suc i) h e = or_right (test x) (list_any test xs) (any_some test xs i (omega arith) e)
 
 pub all_get : (P : List ℤ → Type 0) (xs : List (List ℤ)) (i : ℕ) → AllByRecursion P xs → i < length xs → P (get_or xs i [])
 all_get P [] i all h = absurd (omega arith)
@@ -31,14 +29,6 @@ all_get P (x ∷ xs) zero all h = all.0
 all_get P (x ∷ xs) (suc i) all h = all_get P xs i all.1 (omega arith)
 
 -- ---- the levels of a macroblock are in range
-
-all_append : (P : ℤ → Type 0) (xs ys : List ℤ) → AllByRecursion P xs → AllByRecursion P ys → AllByRecursion P (xs ++ ys)
-all_append P [] ys p q = q
-all_append P (x ∷ xs) ys p q = (p.0, all_append P xs ys p.1 q)
-
-small_zeros : (n : ℕ) → AreSmallLevels (replicate n (pos 0))
-small_zeros zero = tt
-small_zeros (suc n) = (omega arith, small_zeros n)
 
 small_list : (coded : Bool) (max bound : ℕ) (levels : List ℤ) → IsList coded max bound levels → AreSmallLevels levels
 small_list true max bound levels is = is.small

@@ -81,7 +81,7 @@ size-small max (inr (inr e)) = omega arith
 abbrev pub AllSmall : List ℤ → Type 0
 AllSmall = AllByRecursion (λ l. magnitude l ≤ 65535)
 
-all_append : (P : ℤ → Type 0) (xs ys : List ℤ) → AllByRecursion P xs → AllByRecursion P ys → AllByRecursion P (xs ++ ys)
+pub all_append : (P : ℤ → Type 0) (xs ys : List ℤ) → AllByRecursion P xs → AllByRecursion P ys → AllByRecursion P (xs ++ ys)
 all_append P [] ys p q = q
 all_append P (x ∷ xs) ys p q = (p.0, all_append P xs ys p.1 q)
 
@@ -106,7 +106,7 @@ all_weaker : (P Q : ℤ → Type 0) → ((l : ℤ) → P l → Q l) → (xs : Li
 all_weaker P Q f [] p = tt
 all_weaker P Q f (x ∷ xs) p = (f x p.0, all_weaker P Q f xs p.1)
 
-small_zeros : (n : ℕ) → AllSmall (zeros n)
+pub small_zeros : (n : ℕ) → AllSmall (zeros n)
 small_zeros zero = tt
 small_zeros (suc n) = (omega arith, small_zeros n)
 

@@ -2,7 +2,7 @@ use Rattle.std.proofs.Common.{◌≡◌, ℕ, zero, suc, ◌+◌, ◌-◌, ◌<�
 use Rattle.std.specs.Option.{option_map}
 use Rattle.std.proofs.lemmas.List.{nil_from_length, length-take}
 use Rattle.std.proofs.lemmas.List.Sums.{sum_by-cons}
-use Rattle.std.proofs.lemmas.Bool.{ltb-true, eq-eqb, le-leb, cases_order}
+use Rattle.std.proofs.lemmas.Bool.{ltb-true, eq-eqb, le-leb, cases_order, or_right}
 use Rattle.bit_texts.specs.Bits.{binary}
 use Rattle.bit_texts.specs.Texts.{Reads, IsPrefixFree, BothAre, both_texts}
 use Rattle.bit_texts.proofs.Reading.{Reads-then, Reads-stop, Reads-map, Reads-same, IsPrefixFree-then, IsPrefixFree-map, IsPrefixFree-same}
@@ -93,10 +93,6 @@ run_none left bits e =
 
 abbrev pub AreZeros : ℕ → ℕ → ℕ → Type 0
 AreZeros max total z = (total + z ≤ max) × (total ≡ 0 → z ≡ 0)
-
-or_right : (x y : Bool) → y ≡ true → (x || y) ≡ true
-or_right true y e = refl
-or_right false y e = e
 
 zeros_test : (max total : ℕ) → (total ≡ 0) ⊎ (total ≡ max) → (total == 0 || nat_le max total) ≡ true
 zeros_test max total (inl e) = ap (λ b. b || nat_le max total) (eq-eqb total 0 e)

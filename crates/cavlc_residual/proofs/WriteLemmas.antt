@@ -4,9 +4,9 @@ use Rattle.std.proofs.lemmas.Int.{ints, to_z-of_z}
 use Rattle.std.proofs.lemmas.List.{append-nil, reverse-append, drop_more, take_more, length-drop, length-reverse, take-append-drop}
 use Rattle.std.proofs.lemmas.List.Sums.{sum_by-cons}
 use Rattle.std.proofs.lemmas.Bool.{cases_Bool}
-use Rattle.cavlc_residual.proofs.Pieces.{AppendsFront, Appends-then, Appends-stop, Wrote-front}
+use Rattle.cavlc_residual.proofs.Pieces.{AppendsFront, Appends-stop, Wrote-front}
 use Rattle.bit_texts.specs.Texts.{Appended, Appends, Wrote}
-use Rattle.bit_texts.proofs.Writing.{Appended-same, Wrote-next, Wrote-end}
+use Rattle.bit_texts.proofs.Writing.{Appends-then, Appended-same, Wrote-next, Wrote-end}
 use Rattle.code_tables.specs.Codes.{Code, word_at}
 use Rattle.code_tables.specs.CoeffToken.{coeff_token_list}
 use Rattle.code_tables.specs.RunBefore.{run_before_list}

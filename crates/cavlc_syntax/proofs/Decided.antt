@@ -1,8 +1,7 @@
 -- The bits behind a header are the data of a slice, or of none: all lists that could have a text are searched.
-use Rattle.std.proofs.Common.{◌≡◌, ◌⊎◌, inl, inr, ℕ, ◌-◌, ◌*◌, ◌≤◌, Bool, true, false, List, [], ◌∷◌, length, refl, arith}
-use Rattle.std.specs.Prelude.{All}
+use Rattle.std.proofs.Common.{◌≡◌, ◌⊎◌, inl, inr, ℕ, ◌-◌, ◌*◌, ◌≤◌, Bool, true, false, List, length, refl, arith}
 use Rattle.std.specs.List.{AllByRecursion}
-use Rattle.std.proofs.lemmas.List.Elements.{All-nil, All-cons, All-head, All-tail}
+use Rattle.std.proofs.lemmas.List.Elements.{All-from_recursion, recursion_from_All}
 use Rattle.h264_types.specs.Valid.{is_kind_in}
 use Rattle.h264_types.specs.declared.macroblock.Mb.{Mb}
 use Rattle.h264_types.specs.declared.macroblock.MbKind.TheVariants.{Skip}
@@ -13,14 +12,6 @@ use Rattle.cavlc_syntax.specs.Reading.{skipped, IsSkipped, IsRead}
 use Rattle.cavlc_syntax.specs.SliceText.{IsBuiltShape, HasText, prefix_bound, slice_text, NoList}
 use Rattle.cavlc_macroblock.proofs.MacroblockSearching.{macroblock_searched}
 use Rattle.cavlc_syntax.proofs.Members.{all_read, read_text}
-
-all_by : {A : Type 0} (Is : A → Type 0) (xs : List A) → All Is xs → AllByRecursion Is xs
-all_by Is [] h = tt
-all_by Is (x ∷ xs) h = (All-head Is x xs h, all_by Is xs (All-tail Is x xs h))
-
-all_from : {A : Type 0} (Is : A → Type 0) (xs : List A) → AllByRecursion Is xs → All Is xs
-all_from Is [] h = All-nil Is
-all_from Is (x ∷ xs) h = All-cons Is x xs h.0 (all_from Is xs h.1)
 
 -- ---- macroblocks
 
@@ -43,8 +34,8 @@ lists_searched shape built =
     let Read = IsRead shape in
     let most : ℕ = shape.width * shape.height - shape.first in
     same_searched (λ mbs. ((length mbs ≤ most) × AllByRecursion Read mbs) × (1 ≤ length mbs)) (HasText shape)
-    (λ mbs h. let few = h.0.0 in let some = h.1 in read_text shape mbs built (omega (arith, some)) (omega (arith, few, some)) (all_from Read mbs h.0.1))
-    (λ mbs has. let inside = has.slice.inside in let some = has.slice.some in ((omega (arith, inside), all_by Read mbs (all_read shape mbs has)), omega (arith, some)))
+    (λ mbs h. let few = h.0.0 in let some = h.1 in read_text shape mbs built (omega (arith, some)) (omega (arith, few, some)) (All-from_recursion Read mbs h.0.1))
+    (λ mbs has. let inside = has.slice.inside in let some = has.slice.some in ((omega (arith, inside), recursion_from_All Read mbs (all_read shape mbs has)), omega (arith, some)))
     (conditions_searched (λ mbs. (length mbs ≤ most) × AllByRecursion Read mbs) (λ mbs. 1 ≤ length mbs) (λ mbs. most_decided 1 (length mbs)) (at_most_many_searched Read (read_searched shape) most))
 
 abbrev pub IsDecided : SliceShape → ℕ → List Bool → Type 0

@@ -10,12 +10,9 @@ use Rattle.exp_golomb.specs.Element.{element_at}
 use Rattle.exp_golomb.proofs.Fronts.{element-inverts}
 use Rattle.cavlc_macroblock.specs.Macroblock.{alignment}
 use Rattle.cavlc_macroblock.specs.Reading.{alignment_at}
-use Rattle.cavlc_macroblock.proofs.AlignmentLaws.{alignment_inverts}
+use Rattle.cavlc_macroblock.proofs.AlignmentLaws.{alignment_inverts, flag_takes}
 use Rattle.cavlc_syntax.specs.SliceText.{stop_text}
 use Rattle.cavlc_syntax.specs.Reading.{stop_at}
-
-flag_takes : (c : Cursor) (b : Bool) (d : Cursor) → element_at Flag c ≡ Some (b, d) → Takes (b ∷ []) c d
-flag_takes c b d e = ((element-inverts Flag).takes c b d e).1
 
 -- ---- reading
 
