@@ -184,33 +184,3 @@ fn blocks_beside_others(rt: HostRuntime) {
         );
     }
 }
-
-/// Blocks inside the current macroblock: 2 is to the left of 3, and 1 above it.
-#[test]
-fn blocks_inside_a_macroblock(rt: HostRuntime) {
-    let mut current = macroblock(MbKind::P(0), 1, 2);
-    let done = [current; 4];
-    assert_eq!(rt;
-        ctx_inc_block(&shape(), &done, 4, false, &current, 2, 0, 3),
-        0
-    );
-    current.luma[0][32] = 1;
-    assert_eq!(rt;
-        ctx_inc_block(&shape(), &done, 4, false, &current, 2, 0, 3),
-        1
-    );
-    current.luma[0][31] = 1;
-    assert_eq!(rt;
-        ctx_inc_block(&shape(), &done, 4, false, &current, 2, 0, 3),
-        3
-    );
-    current.chroma_ac[0][1][0] = 1;
-    assert_eq!(rt;
-        ctx_inc_block(&shape(), &done, 4, false, &current, 4, 0, 3),
-        2
-    );
-    assert_eq!(rt;
-        ctx_inc_block(&shape(), &done, 4, false, &current, 4, 1, 3),
-        0
-    );
-}
