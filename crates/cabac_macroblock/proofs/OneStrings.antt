@@ -1,7 +1,6 @@
 -- No value has two strings, where the first string's values are told apart by what follows.
-use Rattle.std.proofs.Common.{◌≡◌, Bool, true, false, cond, List, sym, ◌∙◌}
-use Rattle.cabac_engine.specs.Bins.{Slot}
-use Rattle.binarisation.specs.BinString.{BinString, Value, Spells, ◌>>=◌, HasOneString}
+use Rattle.std.proofs.Common.{◌≡◌, Bool, true, false, cond, sym, ◌∙◌}
+use Rattle.binarisation.specs.BinString.{BinString, Value, ◌>>=◌, HasOneString}
 use Rattle.binarisation.proofs.OneString.{value_one}
 use Rattle.binarisation.proofs.Each.{then_one_where}
 use Rattle.cabac_macroblock.proofs.Kept.{Keeps}

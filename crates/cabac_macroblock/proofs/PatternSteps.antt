@@ -10,14 +10,13 @@ use Rattle.cabac_engine.specs.Bins.{Slot}
 use Rattle.binarisation.specs.BinString.{Value, Reads, Writes, ◌>>=◌}
 use Rattle.binarisation.specs.Elements.{pattern_luma, pattern_chroma}
 use Rattle.binarisation.proofs.Strings.{reads_none, Completes}
-use Rattle.h264_types.specs.Kind.{is_skip, is_i_pcm, is_i_16x16}
+use Rattle.h264_types.specs.Kind.{is_skip, is_i_pcm}
 use Rattle.h264_types.specs.Macroblock.{pattern_of}
 use Rattle.h264_types.specs.Valid.{IsPattern}
 use Rattle.h264_types.specs.Slice.{IsInPicture}
 use Rattle.h264_types.specs.Sent.{sends_pattern}
 use Rattle.h264_types.specs.declared.macroblock.Mb.{Mb}
 use Rattle.h264_types.specs.declared.macroblock.MbKind.{MbKind}
-use Rattle.h264_types.specs.declared.macroblock.MbKind.TheVariants.{Skip, Intra, P, B}
 use Rattle.h264_types.specs.declared.macroblock.Pattern.{Pattern}
 use Rattle.h264_types.specs.declared.slice_shape.SliceShape.{SliceShape}
 use Rattle.h264_types.proofs.KindLaws.{other_pattern, no_16x16}

@@ -1,7 +1,7 @@
 -- The prediction of intra macroblocks, element by element.
 use Rattle.std.proofs.Common.{◌≡◌, ℕ, suc, ◌+◌, ◌-◌, ◌<◌, ◌≤◌, Bool, true, false, cond, List, [], ◌∷◌, ◌++◌, length, take, drop, replicate, Option, Some, None, refl, sym, ap, subst, ◌∙◌, arith}
-use Rattle.std.specs.Prelude.{slice_set, slice_index, nat_lt, not, ◌&&◌, ◌||◌}
-use Rattle.std.proofs.lemmas.List.{same_lists, set_at, take_more, take-append-drop, append_assoc, length-take-le, length-drop, length-replicate, get_or_default, get_or-replicate, get_or-drop}
+use Rattle.std.specs.Prelude.{slice_set, slice_index, nat_lt, not, ◌&&◌}
+use Rattle.std.proofs.lemmas.List.{set_at, take_more, take-append-drop, append_assoc, length-take-le, length-drop, get_or-drop}
 use Rattle.std.proofs.lemmas.Bool.Decides.{nat_tests}
 use Rattle.cabac_engine.specs.Bins.{Slot}
 use Rattle.binarisation.specs.BinString.{Value, Reads, Writes}

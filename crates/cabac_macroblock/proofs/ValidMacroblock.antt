@@ -1,6 +1,6 @@
 -- What the bins of a macroblock spell is a macroblock of the slice.
 use Rattle.std.proofs.Common.{◌≡◌, ℕ, ◌<◌, ◌≤◌, ℤ, pos, unsigned_abs, Bool, true, false, List, [], length, replicate, refl, sym, ap, subst, ◌∙◌, arith}
-use Rattle.std.specs.Prelude.{All, IsTrue, nat_le, not, ◌&&◌, ◌||◌, ◌==◌, ◌≤ℤ◌, slice_index, slice_index_or}
+use Rattle.std.specs.Prelude.{All, IsTrue, nat_le, ◌||◌, ◌==◌, ◌≤ℤ◌, slice_index, slice_index_or}
 use Rattle.std.specs.Int.{bit_at}
 use Rattle.std.proofs.lemmas.Nat.Bits.{bit_at-zero}
 use Rattle.std.proofs.lemmas.Int.{ints}

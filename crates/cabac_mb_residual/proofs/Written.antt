@@ -1,6 +1,6 @@
 -- One list of levels that is written from a macroblock.
-use Rattle.std.proofs.Common.{◌≡◌, ℕ, zero, suc, ◌+◌, ◌-◌, ◌*◌, ◌/◌, ◌%◌, ◌<◌, ◌≤◌, eqb, ltb, cond, Bool, true, false, ℤ, pos, negsuc, unsigned_abs, List, [], ◌∷◌, ◌++◌, length, take, drop, replicate, get_or, refl, sym, ap, ◌∙◌, lit≤, arith}
-use Rattle.std.proofs.lemmas.List.{same_lists, get_or-replicate, length-replicate, take_all, append-nil, length-take-le, length-drop, take_more, get_or-take, get_or-drop}
+use Rattle.std.proofs.Common.{◌≡◌, ℕ, zero, suc, ◌+◌, ◌-◌, ◌*◌, ◌/◌, ◌%◌, ◌<◌, ◌≤◌, eqb, ltb, cond, Bool, true, false, ℤ, pos, unsigned_abs, List, [], ◌∷◌, ◌++◌, length, take, drop, replicate, get_or, refl, sym, ap, ◌∙◌, lit≤, arith}
+use Rattle.std.proofs.lemmas.List.{take_all, append-nil, length-take-le, length-drop, take_more, get_or-take, get_or-drop}
 use Rattle.std.proofs.lemmas.List.Elements.{recursion_from_All, All-take, All-drop}
 use Rattle.cabac_engine.specs.Bins.{Slot}
 use Rattle.h264_types.specs.Kind.{is_i_16x16, is_intra}
