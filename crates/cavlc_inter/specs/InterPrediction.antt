@@ -1,5 +1,5 @@
 -- The prediction of P and B macroblocks (7.3.5.1, 7.3.5.2).
-use Rattle.std.specs.Prelude.{◌≡◌, ℕ, ◌-◌, ◌*◌, ◌/◌, ◌<◌, ◌≤◌, ◌&&◌, nat_lt, Bool, if◌then◌else◌, ℤ, pos, negsuc, ◌≤ℤ◌, List, [], ◌∷◌, ◌++◌, length, replicate, slice_index, slice_index_or}
+use Rattle.std.specs.Prelude.{◌≡◌, ℕ, ◌-◌, ◌*◌, ◌/◌, ◌≤◌, ◌&&◌, nat_lt, Bool, if◌then◌else◌, ℤ, pos, negsuc, ◌≤ℤ◌, List, [], ◌∷◌, ◌++◌, length, replicate, slice_index, slice_index_or}
 use Rattle.bit_texts.specs.Texts.{IsWhen, when_text, AreTurns, turns_text}
 use Rattle.exp_golomb.specs.Code.{ue, te, se}
 use Rattle.h264_types.specs.Kind.{has_sub_macroblocks}

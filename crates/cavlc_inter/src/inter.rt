@@ -1,4 +1,4 @@
-ghost use Rattle.std.specs.Prelude.{◌≡◌, ◌++◌, length, option_map};
+ghost use Rattle.std.specs.Prelude.{◌≡◌, ◌++◌, option_map};
 ghost use Rattle.bit_texts.specs.Texts.{Reads, Appends};
 ghost use Rattle.cavlc_inter.specs.InterPrediction as inter;
 

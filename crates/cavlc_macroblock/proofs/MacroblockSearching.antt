@@ -1,6 +1,6 @@
 -- The macroblocks that have a text can be searched: each of their elements has finitely many values.
 use Rattle.std.proofs.Common.{◌≡◌, ◌⊎◌, inl, inr, ℕ, suc, ◌+◌, ◌-◌, ◌*◌, ◌/◌, ◌<◌, ◌≤◌, ℤ, pos, negsuc, ◌≤ℤ◌, Bool, true, false, List, [], length, take, drop, get_or, replicate, refl, sym, ap, subst, ◌∙◌, arith}
-use Rattle.std.specs.Prelude.{All, IsTrue, if◌then◌else◌, ◌&&◌, nat_lt, slice_index, slice_index_or, unsigned_abs}
+use Rattle.std.specs.Prelude.{All, IsTrue, if◌then◌else◌, ◌&&◌, nat_lt, slice_index, slice_index_or}
 use Rattle.std.proofs.lemmas.Int.{ints}
 use Rattle.std.proofs.lemmas.List.{get_or_default}
 use Rattle.std.proofs.lemmas.List.Elements.{All-from_recursion, recursion_from_All}

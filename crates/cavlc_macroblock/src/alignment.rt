@@ -1,5 +1,5 @@
 //! Zero bits up to the byte boundary.
-ghost use Rattle.std.specs.Prelude.{◌≡◌, ◌++◌, length};
+ghost use Rattle.std.specs.Prelude.{length};
 ghost use Rattle.bit_texts.specs.Cursor.{cursor};
 ghost use Rattle.bit_texts.specs.Readings.{Gives};
 ghost use Rattle.bit_texts.specs.Texts.{Appends};

@@ -1,7 +1,6 @@
 //! What the layers above rest on: functions that do nothing, whose clauses are the laws.
-ghost use Rattle.std.specs.Prelude.{◌≡◌, ◌↔◌, ◌≤◌, ℕ, Bool, true, false, IsTrue, slice_index};
+ghost use Rattle.std.specs.Prelude.{◌≡◌, ◌↔◌, ◌≤◌, ℕ, true, false, IsTrue, slice_index};
 ghost use Rattle.bit_texts.specs.Texts.{IsPrefixFree};
-ghost use Rattle.h264_types.specs.declared.macroblock.MbKind.{MbKind};
 ghost use Rattle.h264_types.specs.declared.macroblock.MbKind.TheVariants.{Skip};
 ghost use Rattle.h264_types.specs.declared.macroblock.Mb.{Mb};
 ghost use Rattle.h264_types.specs.declared.slice_shape.SliceShape.{SliceShape};

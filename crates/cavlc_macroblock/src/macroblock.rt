@@ -1,5 +1,5 @@
 //! One macroblock.
-ghost use Rattle.std.specs.Prelude.{◌≡◌, ◌≤◌, ◌++◌, length, option_map};
+ghost use Rattle.std.specs.Prelude.{◌≤◌, length, option_map};
 ghost use Rattle.bit_texts.specs.Cursor.{cursor};
 ghost use Rattle.bit_texts.specs.Readings.{Gives};
 ghost use Rattle.bit_texts.specs.Texts.{Appends};

@@ -1,5 +1,5 @@
 //! coded_block_pattern and mb_qp_delta (ITU-T H.264, 7.3.5).
-ghost use Rattle.std.specs.Prelude.{◌≡◌, ◌+◌, ◌<◌, ◌≤◌, ◌++◌, ℕ, pos, length};
+ghost use Rattle.std.specs.Prelude.{◌≡◌, ◌+◌, ◌<◌, ◌++◌, pos};
 ghost use Rattle.bit_texts.specs.Texts.{Reads, Appends, IsWhen, when_text};
 ghost use Rattle.exp_golomb.specs.Code.{se};
 ghost use Rattle.cavlc_macroblock.specs.MacroblockLayer as layer;

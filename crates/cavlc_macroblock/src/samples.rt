@@ -1,7 +1,7 @@
 //! The samples of I_PCM macroblocks (ITU-T H.264, 7.3.5), eight at a time.
-ghost use Rattle.std.specs.Prelude.{◌≡◌, ◌+◌, ◌*◌, ◌<◌, ◌≤◌, ◌++◌, length, take, drop, option_map};
+ghost use Rattle.std.specs.Prelude.{◌≡◌, ◌+◌, ◌*◌, ◌<◌, ◌++◌, take, drop, option_map};
 ghost use Rattle.bit_texts.specs.Bits.{binary, bits_of};
-ghost use Rattle.bit_texts.specs.Texts.{Reads, Appends, Wrote};
+ghost use Rattle.bit_texts.specs.Texts.{Reads, Appends};
 ghost use Rattle.cavlc_macroblock.specs.Macroblock.{AreSamples};
 
 use exp_golomb::{BitSink, BitSource};

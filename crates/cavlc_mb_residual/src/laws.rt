@@ -1,5 +1,5 @@
 //! What the layers above rest on: functions that do nothing, whose clauses are the laws.
-ghost use Rattle.std.specs.Prelude.{◌≡◌, ◌↔◌, ◌+◌, ◌<◌, ◌≤◌, ℕ, Bool, true, false, List, Some, length, take, slice_get};
+ghost use Rattle.std.specs.Prelude.{◌≡◌, ◌↔◌, ◌<◌, ◌≤◌, ℕ, Bool, true, false, List, Some, length, take, slice_get};
 ghost use Rattle.bit_texts.specs.Texts.{IsPrefixFree};
 ghost use Rattle.h264_types.specs.Kind.{is_i_16x16};
 ghost use Rattle.h264_types.specs.Macroblock.{pattern_of};

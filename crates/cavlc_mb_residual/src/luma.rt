@@ -4,7 +4,7 @@ ghost use Rattle.bit_texts.specs.Bits.{bit};
 ghost use Rattle.bit_texts.specs.Texts.{Reads, Appends};
 ghost use Rattle.h264_types.specs.Macroblock.{luma_block};
 ghost use Rattle.cavlc_mb_residual.specs.Counts.{AreSides, AreSmall};
-ghost use Rattle.cavlc_mb_residual.specs.Residual.{counted, is_coded, IsLumaBlock, luma_block_text, AreLumaBlocks, luma_text};
+ghost use Rattle.cavlc_mb_residual.specs.Residual.{counted, IsLumaBlock, luma_block_text, AreLumaBlocks, luma_text};
 ghost use Rattle.cavlc_mb_residual.specs.LumaBlocks.{sixteen, sent_block, luma_blocks};
 
 use crate::counts::{Sides, count_levels};

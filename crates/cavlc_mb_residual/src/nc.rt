@@ -1,4 +1,4 @@
-ghost use Rattle.std.specs.Prelude.{◌≡◌, ◌≤◌, ◌<◌, ℕ, pos, IfSome, slice_index_or};
+ghost use Rattle.std.specs.Prelude.{◌≡◌, ◌≤◌, ◌<◌, pos, IfSome, slice_index_or};
 ghost use Rattle.mb_neighbours.specs.Place.{IsPlace, x_of, y_of, covering};
 ghost use Rattle.cavlc_mb_residual.specs.Counts as count;
 

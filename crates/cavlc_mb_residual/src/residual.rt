@@ -1,4 +1,4 @@
-ghost use Rattle.std.specs.Prelude.{◌≡◌, ◌≤◌, ◌++◌, ℕ, negsuc, length, option_map, All};
+ghost use Rattle.std.specs.Prelude.{◌≡◌, ◌≤◌, ◌++◌, negsuc, option_map};
 ghost use Rattle.bit_texts.specs.Texts.{Reads, Appends};
 ghost use Rattle.h264_types.specs.Kind.{is_i_16x16};
 ghost use Rattle.h264_types.specs.Macroblock.{pattern_of};

@@ -1,6 +1,6 @@
 -- Texts that are appended part by part.
 use Rattle.std.proofs.Common.{◌≡◌, Bool, List, ◌++◌, Result, IsErr}
-use Rattle.bit_texts.specs.Texts.{Appended, Wrote, Appends}
+use Rattle.bit_texts.specs.Texts.{Wrote, Appends}
 use Rattle.bit_texts.proofs.Writing.{Appends-Err, Appends-stop as stop, Wrote-stop}
 
 -- a front of the text was appended

@@ -1,4 +1,4 @@
-ghost use Rattle.std.specs.Prelude.{◌≡◌, ◌≤◌, true, drop, length};
+ghost use Rattle.std.specs.Prelude.{◌≡◌, ◌≤◌, true, length};
 ghost use Rattle.std.specs.List.{AllByRecursion};
 ghost use Rattle.cavlc_residual.specs.Coefficients.{magnitude};
 ghost use Rattle.cavlc_residual.specs.Block.{is_nonzero, is_above, levels_above as above_test, is_beyond as beyond_test};

@@ -1,7 +1,7 @@
-ghost use Rattle.std.specs.Prelude.{List, false, ◌≡◌, ℕ, ℤ, ◌≢◌, ◌↔◌, true, ◌+◌, ◌-◌, ◌<◌, ◌≤◌, ◌++◌, pos, length, sum, replicate, IfSome, option_map};
+ghost use Rattle.std.specs.Prelude.{◌≡◌, ◌≢◌, ◌↔◌, true, ◌+◌, ◌-◌, ◌<◌, ◌≤◌, ◌++◌, pos, length, sum, replicate, IfSome, option_map};
 ghost use Rattle.std.specs.List.{AllByRecursion};
 ghost use Rattle.arrayvec.specs.ArrayVec.{array_vec_len};
-ghost use Rattle.bit_texts.specs.Texts.{Reads, Appends, IsPrefixFree};
+ghost use Rattle.bit_texts.specs.Texts.{Reads, Appends};
 ghost use Rattle.cavlc_residual.specs.Coefficients.{magnitude};
 ghost use Rattle.cavlc_residual.specs.Block.{IsShape, trailing_ones, total_coeff, levels_text, parts_text, block_text, is_beyond, IsBlock};
 ghost use Rattle.cavlc_residual.specs.Parts.{AreLevels, scan_of};

@@ -1,6 +1,6 @@
-ghost use Rattle.std.specs.Prelude.{◌≡◌, ◌+◌, ◌<◌, ◌≤◌, ◌++◌, length, map, option_map};
+ghost use Rattle.std.specs.Prelude.{◌≡◌, ◌+◌, ◌<◌, ◌≤◌, ◌++◌, map, option_map};
 ghost use Rattle.arrayvec.specs.ArrayVec.{array_vec_len};
-ghost use Rattle.bit_texts.specs.Texts.{Reads, Appends};
+ghost use Rattle.bit_texts.specs.Texts.{Reads};
 ghost use Rattle.cavlc_residual.specs.Coefficients.{is_minus};
 ghost use Rattle.cavlc_residual.specs.Block.{first_suffix_length, first_extra, levels_text};
 ghost use Rattle.cavlc_residual.specs.Parts.{IsToken, token_text, AreOnes, AreLevels};

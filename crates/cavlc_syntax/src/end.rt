@@ -1,5 +1,5 @@
 //! The end of a slice (ITU-T H.264, 7.3.2.11).
-ghost use Rattle.std.specs.Prelude.{◌≡◌, ◌++◌, [], length, MatchBool};
+ghost use Rattle.std.specs.Prelude.{◌≡◌, [], length, MatchBool};
 ghost use Rattle.bit_texts.specs.Cursor.{cursor};
 ghost use Rattle.bit_texts.specs.Readings.{Gives};
 ghost use Rattle.bit_texts.specs.Texts.{Appends};
