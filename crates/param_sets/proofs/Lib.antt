@@ -1,4 +1,5 @@
 pub mod Loops
+pub mod Straight
 pub mod Spelled
 pub mod Trailing
 pub mod TrailingWritten

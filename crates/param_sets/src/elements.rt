@@ -1,3 +1,4 @@
+use std::alloc::Global;
 use std::marker::Model;
 
 /// The values of a syntax element that stands several times, in their order.
@@ -18,7 +19,16 @@ impl<T> Model for Elements<T> {
 }
 
 impl<T> Elements<T> {
-    ghost use Rattle.std.specs.Prelude.{◌≡◌};
+    ghost use Rattle.std.specs.Prelude.{◌≡◌, []};
+
+    /// No items.
+    pub fn empty(alloc: Global) -> Self
+        ensures { result ≡ [] }
+    {
+        Elements {
+            items: Vec::new(alloc),
+        }
+    }
 
     /// The items of a vector.
     pub fn new(items: Vec<T>) -> Self

@@ -1,7 +1,8 @@
 //! Single syntax elements, where a fault says that none stands there.
-ghost use Rattle.std.specs.Prelude.{◌≤◌, ◌≤ℤ◌, pos, negsuc};
+ghost use Rattle.std.specs.Prelude.{◌≤◌, ◌≤ℤ◌, pos, negsuc, false};
 ghost use Rattle.exp_golomb.specs.Code.{Flag, U, Ue, Se};
-ghost use Rattle.exp_golomb.specs.Syntax.{ReadsElement};
+ghost use Rattle.exp_golomb.specs.Syntax.{Element, Done, ReadsElement, Answers, outcome_of, when};
+ghost use Rattle.param_sets.specs.Refusal.{part_says};
 ghost use Rattle.param_sets.specs.declared.fault.SetFault.TheVariants.{NoReading};
 
 use crate::fault::SetFault;
@@ -33,4 +34,15 @@ pub fn se<B: BitSource>(bits: &mut B, min: i32, max: i32) -> Result<i32, SetFaul
     ensures { ReadsElement NoReading (Se min max) result (B.left bits.old) (B.left bits.new) }
 {
     read_se(bits, min, max).ok_or(SetFault::NoReading)
+}
+
+/// A flag that stands under a condition; where it is absent it is false.
+#[tactic(auto, unfolding(exp_golomb::specs::Syntax::outcome_of))]
+pub fn flag_when<B: BitSource>(bits: &mut B, present: bool) -> Result<bool, SetFault>
+    ensures { Answers part_says (λ x. x) result (B.left bits.new) (outcome_of (when present false (Element Flag Done)) (B.left bits.old)) }
+{
+    if !present {
+        return Ok(false);
+    }
+    flag(bits)
 }

@@ -14,7 +14,6 @@ use crate::read_trailing::read_trailing_bits;
 use exp_golomb::{BitSource, SliceBits};
 use std::alloc::Global;
 
-#[tactic(auto, unfolding(exp_golomb::specs::Syntax::outcome_of, crate::specs::PictureParameterSet::pps_head))]
 fn read_head<B: BitSource>(alloc: Global, bits: &mut B) -> Result<Pps, SetFault>
     ensures { Answers pps_says (λ x. x) result (B.left bits.new) (outcome_of pps_head (B.left bits.old)) }
 {
@@ -61,7 +60,7 @@ fn read_head<B: BitSource>(alloc: Global, bits: &mut B) -> Result<Pps, SetFault>
         tail: false,
         transform_8x8_mode_flag: false,
         pic_scaling_matrix_present_flag: false,
-        scaling_lists: Elements::new(Vec::new(alloc)),
+        scaling_lists: Elements::empty(alloc),
         second_chroma_qp_index_offset: 0,
     })
 }

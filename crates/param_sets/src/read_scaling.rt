@@ -47,7 +47,7 @@ fn read_scaling_list<B: BitSource>(
     ensures { Answers part_says (λ x. x) result (B.left bits.new) (outcome_of (scaling_list entries) (B.left bits.old)) }
 {
     if !flag(bits)? {
-        return Ok(Elements::new(Vec::new(alloc)));
+        return Ok(Elements::empty(alloc));
     }
     read_deltas(alloc, bits, entries)
 }
@@ -84,7 +84,7 @@ pub fn read_scaling_matrix<B: BitSource>(
     ensures { Answers part_says (λ x. x) result (B.left bits.new) (outcome_of (scaling_matrix present count) (B.left bits.old)) }
 {
     if !present {
-        return Ok(Elements::new(Vec::new(alloc)));
+        return Ok(Elements::empty(alloc));
     }
     read_scaling_lists(alloc, bits, count)
 }

@@ -2,24 +2,31 @@ ghost use Rattle.std.specs.Prelude.{◌≡◌, [], IfOk};
 ghost use Rattle.bit_texts.specs.Bits.{bits_of};
 ghost use Rattle.exp_golomb.specs.Syntax.{outcome_of, Answers};
 ghost use Rattle.param_sets.specs.Refusal.{sps_says, part_says};
-ghost use Rattle.param_sets.specs.SequenceParameterSet.{offsets, sps_head, sps_high, sps_order, sps_order_lsb, sps_order_cycle, sps_size, sps_profile, sps_fields, is_above_limits, seq_parameter_set, ReadsSps};
+ghost use Rattle.param_sets.specs.SequenceParameterSet.{offsets, sps_head, sps_high, sps_order, sps_order_lsb, sps_order_cycle, sps_size, sps_profile, sps_fields, is_profile, is_above_limits, seq_parameter_set, ReadsSps};
 ghost use Rattle.param_sets.specs.SpsCodes.{IsSps};
 
 use crate::elements::Elements;
 use crate::fault::SetFault;
-use crate::read_element::{flag, se, u, ue};
+use crate::read_element::{flag, flag_when, se, u, ue};
 use crate::read_scaling::read_scaling_matrix;
 use crate::read_trailing::read_unread_bits;
 use crate::sps::Sps;
 use exp_golomb::{BitSource, SliceBits};
 use std::alloc::Global;
 
-#[tactic(auto, unfolding(exp_golomb::specs::Syntax::outcome_of, crate::specs::SequenceParameterSet::sps_head))]
+/// Whether a profile is Main or High.
+fn is_known_profile(profile_idc: u32) -> bool
+    ensures { result ≡ is_profile profile_idc }
+{
+    profile_idc == 77 || profile_idc == 100
+}
+
 fn read_head<B: BitSource>(alloc: Global, bits: &mut B) -> Result<Sps, SetFault>
     ensures { Answers sps_says (λ x. x) result (B.left bits.new) (outcome_of sps_head (B.left bits.old)) }
 {
     let profile_idc = u(bits, 8)?;
-    if profile_idc != 77 && profile_idc != 100 {
+    let known = is_known_profile(profile_idc);
+    if !known {
         return Err(SetFault::Profile);
     }
     let constraint_set0_flag = flag(bits)?;
@@ -47,7 +54,7 @@ fn read_head<B: BitSource>(alloc: Global, bits: &mut B) -> Result<Sps, SetFault>
         bit_depth_chroma_minus8: 0,
         qpprime_y_zero_transform_bypass_flag: false,
         seq_scaling_matrix_present_flag: false,
-        scaling_lists: Elements::new(Vec::new(alloc)),
+        scaling_lists: Elements::empty(alloc),
         log2_max_frame_num_minus4: 0,
         pic_order_cnt_type: 0,
         log2_max_pic_order_cnt_lsb_minus4: 0,
@@ -55,7 +62,7 @@ fn read_head<B: BitSource>(alloc: Global, bits: &mut B) -> Result<Sps, SetFault>
         offset_for_non_ref_pic: 0,
         offset_for_top_to_bottom_field: 0,
         num_ref_frames_in_pic_order_cnt_cycle: 0,
-        offset_for_ref_frame: Elements::new(Vec::new(alloc)),
+        offset_for_ref_frame: Elements::empty(alloc),
         max_num_ref_frames: 0,
         gaps_in_frame_num_value_allowed_flag: false,
         pic_width_in_mbs_minus1: 0,
@@ -63,11 +70,10 @@ fn read_head<B: BitSource>(alloc: Global, bits: &mut B) -> Result<Sps, SetFault>
         frame_mbs_only_flag: false,
         mb_adaptive_frame_field_flag: false,
         direct_8x8_inference_flag: false,
-        rest: Elements::new(Vec::new(alloc)),
+        rest: Elements::empty(alloc),
     })
 }
 
-#[tactic(auto, using(exp_golomb::proofs::Syntaxes::outcome_of_then), unfolding(exp_golomb::specs::Syntax::outcome_of, crate::specs::SequenceParameterSet::sps_high))]
 fn read_high<B: BitSource>(alloc: Global, bits: &mut B, sps: Sps) -> Result<Sps, SetFault>
     ensures { Answers sps_says (λ x. x) result (B.left bits.new) (outcome_of (sps_high sps) (B.left bits.old)) }
 {
@@ -126,7 +132,6 @@ fn read_offsets<B: BitSource>(
     Ok(Elements::new(offsets))
 }
 
-#[tactic(auto, using(exp_golomb::proofs::Syntaxes::outcome_of_then), unfolding(exp_golomb::specs::Syntax::outcome_of, crate::specs::SequenceParameterSet::sps_order_cycle))]
 fn read_order_cycle<B: BitSource>(alloc: Global, bits: &mut B, sps: Sps) -> Result<Sps, SetFault>
     ensures { Answers sps_says (λ x. x) result (B.left bits.new) (outcome_of (sps_order_cycle sps) (B.left bits.old)) }
 {
@@ -163,7 +168,6 @@ fn read_order<B: BitSource>(alloc: Global, bits: &mut B, sps: Sps) -> Result<Sps
     }
 }
 
-#[tactic(auto, unfolding(exp_golomb::specs::Syntax::outcome_of, crate::specs::SequenceParameterSet::sps_size))]
 fn read_size<B: BitSource>(bits: &mut B, sps: Sps) -> Result<Sps, SetFault>
     ensures { Answers sps_says (λ x. x) result (B.left bits.new) (outcome_of (sps_size sps) (B.left bits.old)) }
 {
@@ -172,11 +176,7 @@ fn read_size<B: BitSource>(bits: &mut B, sps: Sps) -> Result<Sps, SetFault>
     let pic_width_in_mbs_minus1 = ue(bits, u32::MAX - 1)?;
     let pic_height_in_map_units_minus1 = ue(bits, u32::MAX - 1)?;
     let frame_mbs_only_flag = flag(bits)?;
-    let mb_adaptive_frame_field_flag = if frame_mbs_only_flag {
-        false
-    } else {
-        flag(bits)?
-    };
+    let mb_adaptive_frame_field_flag = flag_when(bits, !frame_mbs_only_flag)?;
     let direct_8x8_inference_flag = flag(bits)?;
     Ok(Sps {
         max_num_ref_frames,
