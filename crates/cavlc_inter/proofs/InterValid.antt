@@ -20,6 +20,7 @@ use Rattle.h264_types.specs.declared.partition.Prediction.TheVariants.{Unsent}
 use Rattle.h264_types.specs.declared.slice_shape.SliceShape.{SliceShape}
 use Rattle.cavlc_inter.specs.declared.parts.Parts.{Parts}
 use Rattle.h264_types.proofs.Lists.{HasLists}
+use Rattle.h264_types.proofs.Zeros.{zero_of}
 use Rattle.cavlc_inter.specs.InterPrediction.{AreSubs, AreSubsIf, uses, greatest_ref, has_ref, AreRefs, IsDifference, IsVector, no_vector, has_mvd, AreMvds, parts_of, refs_of, mvds_of, IsInter, active_at, active_refs}
 use Rattle.cavlc_inter.proofs.Codes.{two_are}
 use Rattle.cavlc_inter.proofs.Places.{elements_are, elements_repeat, Respects, element_there, element_absent}
@@ -127,10 +128,6 @@ difference_of d h = (omega (arith, ints), omega (arith, ints))
 
 of_difference : (d : ℤ) → IsDifference d → unsigned_abs d ≤ 32767
 of_difference d h = omega (arith, ints, h.0, h.1)
-
-zero_of : (v : ℤ) → unsigned_abs v ≤ 0 → v ≡ pos 0
-zero_of (pos n) h = ap pos (omega arith)
-zero_of (negsuc n) h = absurd (omega arith)
 
 vector_there : (used : Bool) (v : List ℤ) → used ≡ true → length v ≡ 2 → IsWithin (if used then 32767 else 0) v → IsVector v
 vector_there true v e size within = record { size = size; x = difference_of _ (within 0 (pos 0) (omega (arith, size))); y = difference_of _ (within 1 (pos 0) (omega (arith, size))) }

@@ -17,6 +17,7 @@ use Rattle.bit_texts.proofs.Reading.{same_rest}
 use Rattle.exp_golomb.specs.Code.{U, IsIn, code, ue, zeros_of}
 use Rattle.exp_golomb.specs.Element.{element_at}
 use Rattle.exp_golomb.proofs.Fronts.{element-inverts}
+use Rattle.h264_types.proofs.KindLaws.{named_pcm}
 use Rattle.h264_types.specs.Kind.{is_i_pcm, is_skip}
 use Rattle.h264_types.specs.Valid.{is_kind_in}
 use Rattle.h264_types.specs.declared.macroblock.Mb.{Mb}
@@ -78,12 +79,6 @@ pcm_inverts =
 
 pub pcm_kind : (mb : Mb) → IsIPcm mb → mb.kind ≡ Intra 25
 pcm_kind mb is = ap (λ (m : Mb). m.kind) is.elements
-
-pub named_pcm : (kind : MbKind) → is_i_pcm kind ≡ true → kind ≡ Intra 25
-named_pcm (Intra n) e = ap Intra (grind (arith, nat_tests))
-named_pcm kinds.Skip e = absurd cc
-named_pcm (kinds.P n) e = absurd cc
-named_pcm (kinds.B n) e = absurd cc
 
 -- ---- types
 

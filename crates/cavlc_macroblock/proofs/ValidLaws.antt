@@ -20,7 +20,9 @@ use Rattle.h264_types.specs.declared.macroblock.MbKind.TheVariants as kinds
 use Rattle.h264_types.specs.declared.macroblock.MbKind.TheVariants.{Intra, Skip}
 use Rattle.h264_types.specs.declared.macroblock.Pattern.{Pattern}
 use Rattle.h264_types.specs.declared.slice_shape.SliceShape.{SliceShape}
+use Rattle.h264_types.proofs.KindLaws.{unset, named_pcm}
 use Rattle.h264_types.proofs.Lists.{lists_of}
+use Rattle.h264_types.proofs.Zeros.{all_same, zero_numbers, zero_of, zero_levels, zero_lists, zeros_within, zero_at}
 use Rattle.cavlc_inter.specs.InterPrediction.{IsInter, active_refs, refs_of}
 use Rattle.cavlc_inter.proofs.InterValid.{to_inter, from_inter}
 use Rattle.h264_types.specs.Sizes.{HasSizes}
@@ -28,19 +30,14 @@ use Rattle.cavlc_mb_residual.specs.MacroblockResidual.{ac_of, is_beyond_mb}
 use Rattle.cavlc_mb_residual.specs.LumaBlocks as blocks
 use Rattle.cavlc_mb_residual.proofs.BeyondLaws.{each_turn}
 use Rattle.cavlc_mb_residual.proofs.ResidualUnique.{same_two}
-use Rattle.cavlc_mb_residual.proofs.ResidualValid.{HasTransform, all_same, no_numbers, zero_of, no_levels, no_lists, zeros_within, zero_at, turns_of, no_luma, to_residual, from_residual, residual_not_beyond, residual_within}
+use Rattle.cavlc_mb_residual.proofs.ResidualValid.{HasTransform, turns_of, no_luma, to_residual, from_residual, residual_not_beyond, residual_within}
 use Rattle.cavlc_macroblock.specs.Macroblock.{IsIPcm}
 use Rattle.cavlc_macroblock.specs.MacroblockLayer.{AreModes, no_pattern, IsPattern, IsQpDelta, IsLayer}
 use Rattle.cavlc_macroblock.specs.Reading.{IsPredicted, IsSent}
 use Rattle.cavlc_macroblock.proofs.ElementLaws.{count_most}
-use Rattle.cavlc_macroblock.proofs.Layers.{named_pcm}
 use Rattle.cavlc_macroblock.proofs.IntraInter.{SendsNoInter, intra_sends, skipped_sends, HasNoInter, no_inter, inter_none, no_refs, no_mvds, no_indices}
 
 -- ---- what a macroblock's type says
-
-unset : (b c : Bool) → (IsTrue b → IsTrue c) → c ≡ false → b ≡ false
-unset false c h e = refl
-unset true c h e = let t : c ≡ true = h refl in absurd (cc (t, e))
 
 neither : (mode some : Bool) → ((mode && false) || (mode && (some && false))) ≡ false
 neither true true = refl
@@ -101,7 +98,7 @@ modes_from t8 modes e most front behind =
     record {
       sent = turns_of (λ (_ : ℕ) mode. mode ≤ 8) (λ s _. s) (λ mode. mode ≤ 8) (λ s x small. small) n 0 (take n modes) size (λ k d below.
           let lt : k < n = omega (arith, below, size) in omega (arith, front k lt, get_or-take n modes k d lt, get_or_default modes k d 0 (omega (arith, lt, e))));
-      others = no_numbers (16 - n) (drop n modes) (omega (arith, e, length-drop n modes)) (λ k below. omega (arith, behind (n + k) (omega arith) (omega arith), get_or-drop n modes k 0));
+      others = zero_numbers (16 - n) (drop n modes) (omega (arith, e, length-drop n modes)) (λ k below. omega (arith, behind (n + k) (omega arith) (omega arith), get_or-drop n modes k 0));
     }
 
 pub some_bound : (b : Bool) → (if b then 8 else 0) ≤ 8
@@ -113,7 +110,7 @@ to_modes true t8 modes e h = modes_from t8 modes e (count_most t8) (λ k lt. ome
   where
     last : (k : ℕ) → mode_count t8 ≤ k → slice_index modes k ≤ (if nat_lt k (mode_count t8) then 8 else 0) → slice_index modes k ≤ 0
     last k ge le = let no : nat_lt k (mode_count t8) ≡ false = grind (arith, nat_tests) in let P : Bool → Type 0 = λ b. slice_index modes k ≤ (if b then 8 else 0) in subst P no le
-to_modes false t8 modes e h = no_numbers 16 modes e h
+to_modes false t8 modes e h = zero_numbers 16 modes e h
 
 front_mode : (t8 : Bool) (modes : List ℕ) → length modes ≡ 16 → mode_count t8 ≤ 16 → AreModes t8 modes → (k : ℕ) → k < mode_count t8 → slice_index modes k ≤ 8
 front_mode t8 modes e most are k lt =
@@ -251,13 +248,6 @@ bounds_of : (shape : SliceShape) (mb : Mb) → IsBare mb.kind → Bounds shape m
 bounds_of shape mb (inl e) = subst (λ k. Bounds shape (record mb { kind = k })) (sym e) (pcm_bounds shape mb)
 bounds_of shape mb (inr e) = subst (λ k. Bounds shape (record mb { kind = k })) (sym e) (skip_bounds shape mb)
 
-levels_none : (n bound : ℕ) (xs : List ℤ) → bound ≡ 0 → length xs ≡ n → IsWithin bound xs → xs ≡ replicate n (pos 0)
-levels_none n bound xs e size h = no_levels n xs size (subst (λ b. IsWithin b xs) e h)
-
-lists_none : (m n bound : ℕ) (xss : List (List ℤ)) → bound ≡ 0 → length xss ≡ m → AllByRecursion (λ xs. length xs ≡ n) xss → All (IsWithin bound) xss → xss ≡ replicate m (replicate n (pos 0))
-lists_none m n bound xss e size sizes h =
-    no_lists m n xss size (All-from_recursion (λ xs. length xs ≡ n) xss sizes) (subst (λ b. All (IsWithin b) xss) e h)
-
 -- what such a macroblock sends nothing of
 record IsPlain (mb : Mb) : Type 0 where
   ref0 : mb.ref0 ≡ false
@@ -281,7 +271,7 @@ luma_none mb none quarters q below =
 ac_none : (mb : Mb) (x : ℕ) → x < 2 → HasSizes mb → chroma_ac_bound mb ≡ 0 → All (IsWithin (chroma_ac_bound mb)) (ac_of x mb) → ac_of x mb ≡ replicate 4 (replicate 15 (pos 0))
 ac_none mb x h sizes none within =
     let size = All-from_recursion (λ (blocks : List (List ℤ)). (length blocks ≡ 4) × AllByRecursion (λ block. length block ≡ 15) blocks) mb.chroma_ac sizes.chroma_ac.1 x [] (omega (arith, sizes.chroma_ac.0)) in
-    lists_none 4 15 (chroma_ac_bound mb) (ac_of x mb) none size.0 size.1 within
+    zero_lists 4 15 (chroma_ac_bound mb) (ac_of x mb) none size.0 size.1 within
 
 plain : (shape : SliceShape) (mb : Mb) → shape.mbaff ≡ false → IsBare mb.kind → IsMacroblock shape mb → IsPlain mb
 plain shape mb frame bare is =
@@ -295,14 +285,14 @@ plain shape mb frame bare is =
       ref0 = unset mb.ref0 (is_ref0 mb) is.typed.ref0 bounds.ref0;
       field = unset mb.field shape.mbaff is.typed.field frame;
       t8 = unset mb.t8 (sends_t8 shape mb) is.typed.t8 bounds.t8;
-      modes = no_numbers 16 mb.modes sizes.modes (λ k h. omega (arith, is.intra.modes k h, bounds.modes k));
+      modes = zero_numbers 16 mb.modes sizes.modes (λ k h. omega (arith, is.intra.modes k h, bounds.modes k));
       chroma_mode = omega (arith, is.intra.chroma_mode, bounds.chroma_mode);
       inter = no_inter mb.kind mb.ref0 (active_refs shape mb) mb (bare_inter mb.kind bare) (to_inter shape mb (lists_of mb sizes) is.typed.ref0 is.inter);
       pattern = pattern;
       qp_delta = zero_of mb.qp_delta (omega (arith, is.coded.qp_delta.magnitude, bounds.qp_delta pattern));
-      dc = levels_none 16 (dc_bound mb.kind) mb.dc bounds.dc sizes.dc is.coded.luma.dc;
+      dc = zero_levels 16 (dc_bound mb.kind) mb.dc bounds.dc sizes.dc is.coded.luma.dc;
       luma = no_luma mb sizes (luma_none mb none is.coded.luma.quarters);
-      chroma_dc = lists_none 2 4 (chroma_dc_bound mb) mb.chroma_dc no_dc sizes.chroma_dc.0 sizes.chroma_dc.1 is.coded.chroma.dc;
+      chroma_dc = zero_lists 2 4 (chroma_dc_bound mb) mb.chroma_dc no_dc sizes.chroma_dc.0 sizes.chroma_dc.1 is.coded.chroma.dc;
       chroma_ac = same_two [] mb.chroma_ac (replicate 2 (replicate 4 (replicate 15 (pos 0)))) sizes.chroma_ac.0 refl (ac_none mb 0 (omega arith) sizes no_ac is.coded.chroma.cb_ac) (ac_none mb 1 (omega arith) sizes no_ac is.coded.chroma.cr_ac);
     }
 

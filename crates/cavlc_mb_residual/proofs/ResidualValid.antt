@@ -22,35 +22,8 @@ use Rattle.cavlc_mb_residual.specs.MacroblockResidual.{IsResidual, AreSmallLevel
 use Rattle.cavlc_mb_residual.proofs.Firsts.{length-sixteen, get_or-sixteen}
 use Rattle.cavlc_mb_residual.proofs.Quarters.{list_in, list_of, place_in, list_below, place_below, length-list, level_of_turn, at_block, in_list, quarter_size, list_at}
 use Rattle.h264_types.proofs.Lists.{two_all}
+use Rattle.h264_types.proofs.Zeros.{zero_levels, zero_lists, zeros_within}
 use Rattle.cavlc_mb_residual.proofs.BeyondLaws.{any_none, all_get, each_turn}
-
--- ---- lists of zeros
-
-pub all_same : {A : Type 0} (x : A) (n : ℕ) (xs : List A) → length xs ≡ n → All (λ y. y ≡ x) xs → xs ≡ replicate n x
-all_same x n xs e h =
-    same_lists xs (replicate n x) (e ∙ sym (length-replicate n x)) (λ k d below. h k d below ∙ sym (get_or-replicate n k x d (omega (arith, below, e))))
-
--- numbers of which none is above 0
-pub no_numbers : (n : ℕ) (xs : List ℕ) → length xs ≡ n → ((k : ℕ) → k < n → slice_index xs k ≤ 0) → xs ≡ replicate n 0
-no_numbers n xs e h = all_same 0 n xs e (λ k d below. get_or_default xs k d 0 below ∙ omega (arith, h k (omega (arith, below, e))))
-
-pub zero_of : (v : ℤ) → unsigned_abs v ≤ 0 → v ≡ pos 0
-zero_of (pos n) h = ap pos (omega arith)
-zero_of (negsuc n) h = absurd (omega arith)
-
-pub no_levels : (n : ℕ) (xs : List ℤ) → length xs ≡ n → IsWithin 0 xs → xs ≡ replicate n (pos 0)
-no_levels n xs e h = all_same (pos 0) n xs e (λ k d below. zero_of (get_or xs k d) (h k d below))
-
-pub no_lists : (m n : ℕ) (xss : List (List ℤ)) → length xss ≡ m → All (λ xs. length xs ≡ n) xss → All (IsWithin 0) xss → xss ≡ replicate m (replicate n (pos 0))
-no_lists m n xss e sizes h = all_same (replicate n (pos 0)) m xss e (λ k d below. no_levels n (get_or xss k d) (sizes k d below) (h k d below))
-
-pub zeros_within : (bound n : ℕ) → IsWithin bound (replicate n (pos 0))
-zeros_within bound n = All-replicate (λ value. unsigned_abs value ≤ bound) n (pos 0) (omega arith)
-
-pub zero_at : (n k : ℕ) → slice_index (replicate n 0) k ≡ 0
-zero_at zero k = refl
-zero_at (suc n) zero = refl
-zero_at (suc n) (suc k) = zero_at n k
 
 -- ---- zeros need no level_prefix
 
@@ -85,7 +58,7 @@ levels_within xs h k d below =
 
 to_list : (coded : Bool) (max : ℕ) (xs : List ℤ) → length xs ≡ max → IsWithin (level_bound coded) xs → IsList coded max 20 xs
 to_list true max xs e h = record { size = e; small = small_levels xs h; within = never_beyond xs (small_levels xs h) }
-to_list false max xs e h = no_levels max xs e h
+to_list false max xs e h = zero_levels max 0 xs refl e h
 
 from_list : (coded : Bool) (max bound : ℕ) (xs : List ℤ) → IsList coded max bound xs → IsWithin (level_bound coded) xs
 from_list true max bound xs is = levels_within xs is.small
@@ -164,7 +137,7 @@ list_within_quarter false bound xs k e lt h = All-take (λ value. unsigned_abs v
 to_sixteen : (coded is_16x16 : Bool) (block : List ℤ) → length block ≡ 16 → IsWithin (level_bound coded) block → unsigned_abs (get_or block 15 (pos 0)) ≤ (if is_16x16 then 0 else 65535) → IsSixteen coded (max_of is_16x16) 20 block
 to_sixteen coded true block e h last = record {
   levels = to_list coded 15 (take 15 block) (length-take-le 15 block (omega (arith, e))) (All-take (λ value. unsigned_abs value ≤ level_bound coded) 15 block h);
-  others = no_levels 1 (drop 15 block) (omega (arith, length-drop 15 block, e)) (at (drop 15 block) (omega (arith, length-drop 15 block, e)) (get_or-drop 15 block 0 (pos 0)));
+  others = zero_levels 1 0 (drop 15 block) refl (omega (arith, length-drop 15 block, e)) (at (drop 15 block) (omega (arith, length-drop 15 block, e)) (get_or-drop 15 block 0 (pos 0)));
 }
   where
     at : (xs : List ℤ) → length xs ≡ 1 → get_or xs 0 (pos 0) ≡ get_or block 15 (pos 0) → IsWithin 0 xs
@@ -380,11 +353,11 @@ residual_within is_16x16 p bound mb is none =
 
 pub no_luma : (mb : Mb) → HasSizes mb → ((q : ℕ) → q < 4 → IsWithin 0 (quarter_of mb q)) → mb.luma ≡ replicate 4 (replicate 64 (pos 0))
 no_luma mb sizes none =
-    no_lists 4 64 mb.luma sizes.luma.0 (All-from_recursion (λ quarter. length quarter ≡ 64) mb.luma sizes.luma.1) (λ q d below.
+    zero_lists 4 64 0 mb.luma refl sizes.luma.0 sizes.luma.1 (λ q d below.
     subst (IsWithin 0) (get_or_default mb.luma q [] d below) (none q (omega (arith, below, sizes.luma.0))))
 
 none_within : (xs : List ℤ) → IsWithin 0 xs → (bound : ℕ) → is_beyond bound xs ≡ false
-none_within xs h bound = ap (is_beyond bound) (no_levels (length xs) xs refl h) ∙ not_beyond-zeros bound (length xs)
+none_within xs h bound = ap (is_beyond bound) (zero_levels (length xs) 0 xs refl refl h) ∙ not_beyond-zeros bound (length xs)
 
 no_luma_beyond : (bound : ℕ) (mb : Mb) → HasSizes mb → ((q : ℕ) → q < 4 → IsWithin 0 (quarter_of mb q)) → list_any (is_beyond bound) (luma_blocks mb) ≡ false
 no_luma_beyond bound mb sizes none =
