@@ -29,7 +29,7 @@ use Rattle.cabac_macroblock.proofs.Kept.{Keeps, keeps_value, keeps_then, keeps_p
 use Rattle.cabac_macroblock.proofs.KeptElements.{residual_kept, coding_kept, pattern_kept, chroma_pattern_kept, chroma_mode_kept, modes_kept, elements_kept}
 use Rattle.binarisation.proofs.Each.{then_one_where, each_one_where}
 use Rattle.cabac_macroblock.proofs.OneStrings.{then_one_back, put_one, if_one}
-use Rattle.cabac_macroblock.proofs.PredictionSteps.{mode_count-most}
+use Rattle.h264_types.proofs.KindLaws.{mode_count-most}
 
 -- ---- what is absent stays so
 

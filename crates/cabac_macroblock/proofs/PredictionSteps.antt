@@ -119,10 +119,6 @@ first_modes n xs most size none =
 no_mode : (count : ℕ) (xs : List ℕ) → ((k : ℕ) → k < 16 → slice_index xs k ≤ cond (nat_lt k count) 8 0) → (k : ℕ) → count ≤ k → k < 16 → slice_index xs k ≤ 0
 no_mode count xs bound k least below = let no : nat_lt k count ≡ false = grind (arith, nat_tests) in let P : Bool → Type 0 = λ b. slice_index xs k ≤ cond b 8 0 in subst P no (bound k below)
 
-pub mode_count-most : (t8 : Bool) → mode_count t8 ≤ 16
-mode_count-most true = omega arith
-mode_count-most false = omega arith
-
 -- all modes that are sent
 pub all_first : (mb : Mb) (n : ℕ) → n ≤ 16 → length mb.modes ≡ 16 → is_i_nxn mb.kind ≡ true → n ≡ mode_count mb.t8 → ((k : ℕ) → k < 16 → slice_index mb.modes k ≤ mode_bound mb k) → with_first n mb ≡ before_chroma_mode mb
 all_first mb n most size sent e bound =

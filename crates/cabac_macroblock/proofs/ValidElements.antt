@@ -28,7 +28,7 @@ use Rattle.cabac_macroblock.proofs.Values.{mode_range, chroma_mode_range, chroma
 use Rattle.cabac_macroblock.specs.MacroblockLayer.{of_type}
 use Rattle.cabac_macroblock.proofs.KeptElements.{luma_bits_kept, chroma_pattern_kept}
 use Rattle.cabac_macroblock.proofs.OneMacroblock.{IsLow, low_more}
-use Rattle.cabac_macroblock.proofs.PredictionSteps.{mode_count-most}
+use Rattle.h264_types.proofs.KindLaws.{mode_count-most}
 
 -- ---- transform_size_8x8_flag
 

@@ -20,10 +20,6 @@ use Rattle.cavlc_macroblock.specs.MacroblockLayer.{mode_text, place_in, pattern_
 
 -- ---- prediction modes
 
-pub count_most : (t8 : Bool) → mode_count t8 ≤ 16
-count_most true = omega arith
-count_most false = omega arith
-
 pub mode_text-8 : (mode : ℕ) → mode ≡ 8 → mode_text mode ≡ true ∷ []
 mode_text-8 mode e = rw e refl
 

@@ -20,7 +20,7 @@ use Rattle.h264_types.specs.declared.macroblock.MbKind.TheVariants as kinds
 use Rattle.h264_types.specs.declared.macroblock.MbKind.TheVariants.{Intra, Skip}
 use Rattle.h264_types.specs.declared.macroblock.Pattern.{Pattern}
 use Rattle.h264_types.specs.declared.slice_shape.SliceShape.{SliceShape}
-use Rattle.h264_types.proofs.KindLaws.{unset, named_pcm}
+use Rattle.h264_types.proofs.KindLaws.{unset, named_pcm, mode_count-most}
 use Rattle.h264_types.proofs.Lists.{lists_of}
 use Rattle.h264_types.proofs.Zeros.{all_same, zero_numbers, zero_of, zero_levels, zero_lists, zeros_within, zero_at}
 use Rattle.cavlc_inter.specs.InterPrediction.{IsInter, active_refs, refs_of}
@@ -34,7 +34,6 @@ use Rattle.cavlc_mb_residual.proofs.ResidualValid.{HasTransform, turns_of, no_lu
 use Rattle.cavlc_macroblock.specs.Macroblock.{IsIPcm}
 use Rattle.cavlc_macroblock.specs.MacroblockLayer.{AreModes, no_pattern, IsPattern, IsQpDelta, IsLayer}
 use Rattle.cavlc_macroblock.specs.Reading.{IsPredicted, IsSent}
-use Rattle.cavlc_macroblock.proofs.ElementLaws.{count_most}
 use Rattle.cavlc_macroblock.proofs.IntraInter.{SendsNoInter, intra_sends, skipped_sends, HasNoInter, no_inter, inter_none, no_refs, no_mvds, no_indices}
 
 -- ---- what a macroblock's type says
@@ -106,7 +105,7 @@ some_bound true = omega arith
 some_bound false = omega arith
 
 to_modes : (sent t8 : Bool) (modes : List ℕ) → length modes ≡ 16 → ((k : ℕ) → k < 16 → slice_index modes k ≤ (if sent && nat_lt k (mode_count t8) then 8 else 0)) → IsWhen sent (replicate 16 0) (AreModes t8) modes
-to_modes true t8 modes e h = modes_from t8 modes e (count_most t8) (λ k lt. omega (arith, h k (omega (arith, lt, count_most t8)), some_bound (nat_lt k (mode_count t8)))) (λ k ge lt. last k ge (h k lt))
+to_modes true t8 modes e h = modes_from t8 modes e (mode_count-most t8) (λ k lt. omega (arith, h k (omega (arith, lt, mode_count-most t8)), some_bound (nat_lt k (mode_count t8)))) (λ k ge lt. last k ge (h k lt))
   where
     last : (k : ℕ) → mode_count t8 ≤ k → slice_index modes k ≤ (if nat_lt k (mode_count t8) then 8 else 0) → slice_index modes k ≤ 0
     last k ge le = let no : nat_lt k (mode_count t8) ≡ false = grind (arith, nat_tests) in let P : Bool → Type 0 = λ b. slice_index modes k ≤ (if b then 8 else 0) in subst P no le
@@ -121,7 +120,7 @@ front_mode t8 modes e most are k lt =
 pub from_modes : (sent t8 : Bool) (modes : List ℕ) → length modes ≡ 16 → IsWhen sent (replicate 16 0) (AreModes t8) modes → (k : ℕ) → k < 16 → slice_index modes k ≤ (if sent && nat_lt k (mode_count t8) then 8 else 0)
 from_modes true t8 modes e are k h = elim (cases_lt k (mode_count t8)) [
   | inl lt ↦ (let yes : nat_lt k (mode_count t8) ≡ true = grind (arith, nat_tests) in
-      let P : Bool → Type 0 = λ b. slice_index modes k ≤ (if b then 8 else 0) in subst P (sym yes) (front_mode t8 modes e (count_most t8) are k lt))
+      let P : Bool → Type 0 = λ b. slice_index modes k ≤ (if b then 8 else 0) in subst P (sym yes) (front_mode t8 modes e (mode_count-most t8) are k lt))
   | inr ge ↦ (let n = mode_count t8 in
       let place : n + (k - n) ≡ k = omega arith in
       let none : slice_index modes k ≡ 0 = ap (λ j. slice_index modes j) (sym place) ∙ sym (get_or-drop n modes (k - n) 0) ∙ ap (λ xs. slice_index xs (k - n)) are.others ∙ zero_at (16 - n) (k - n) in

@@ -1,5 +1,5 @@
 -- What a macroblock's type says of its elements.
-use Rattle.std.proofs.Common.{◌≡◌, ℕ, Bool, true, false, List, refl, ap, arith}
+use Rattle.std.proofs.Common.{◌≡◌, ℕ, ◌≤◌, Bool, true, false, List, refl, ap, arith}
 use Rattle.std.specs.Prelude.{IsTrue}
 use Rattle.std.proofs.lemmas.Bool.Decides.{nat_tests}
 use Rattle.h264_types.specs.declared.macroblock.Mb.{Mb}
@@ -7,7 +7,7 @@ use Rattle.h264_types.specs.declared.macroblock.MbKind.{MbKind}
 use Rattle.h264_types.specs.declared.macroblock.MbKind.TheVariants.{Skip, Intra, P, B}
 use Rattle.h264_types.specs.Kind.{is_inter, is_i_16x16, is_i_pcm}
 use Rattle.h264_types.specs.Macroblock.{pattern_of}
-use Rattle.h264_types.specs.Sent.{takes_t8, sends_pattern}
+use Rattle.h264_types.specs.Sent.{takes_t8, mode_count, sends_pattern}
 
 -- an element that is sent where c holds isn't where c doesn't
 pub unset : (b c : Bool) → (IsTrue b → IsTrue c) → c ≡ false → b ≡ false
@@ -26,6 +26,10 @@ intra_takes_none direct8 (Intra n) subs e = refl
 intra_takes_none direct8 Skip subs e = absurd cc
 intra_takes_none direct8 (P n) subs e = absurd cc
 intra_takes_none direct8 (B n) subs e = absurd cc
+
+pub mode_count-most : (t8 : Bool) → mode_count t8 ≤ 16
+mode_count-most true = omega arith
+mode_count-most false = omega arith
 
 -- the pattern of all types but I_16x16 is the one that is sent
 pub other_pattern : (mb : Mb) (kind : MbKind) → is_i_16x16 kind ≡ false → pattern_of (record mb { kind = kind }) ≡ mb.pattern

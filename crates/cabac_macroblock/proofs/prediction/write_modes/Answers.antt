@@ -1,8 +1,9 @@
 use Rattle.std.proofs.Common.{◌≡◌, ◌<◌, ◌≤◌, ◌+◌, sym, refl, ◌∙◌, arith}
+use Rattle.h264_types.proofs.KindLaws.{mode_count-most}
 use Rattle.cabac_macroblock.specs.IntraPrediction.{mode_at}
 use Rattle.cabac_macroblock.specs.Stages.{before_modes, before_chroma_mode}
 use Rattle.cabac_macroblock.proofs.Puts.{writes_each, writes_each_end}
-use Rattle.cabac_macroblock.proofs.PredictionSteps.{mode_count-most, begins_writing, with_first, writes_mode_at, all_first, no_first, modes_unsent}
+use Rattle.cabac_macroblock.proofs.PredictionSteps.{begins_writing, with_first, writes_mode_at, all_first, no_first, modes_unsent}
 use Rattle.h264_types.specs.Sent.{mode_count}
 use Rattle.cabac_macroblock.proofs.prediction.write_modes.Goals as goal
 

@@ -6,7 +6,8 @@ use Rattle.bit_texts.proofs.Reading.{Reads-None}
 use Rattle.bit_texts.proofs.Turns.{Completes-turn, Completes-stop, Completes-end}
 use Rattle.h264_types.specs.Sent.{mode_count}
 use Rattle.cavlc_macroblock.specs.MacroblockLayer.{mode_text}
-use Rattle.cavlc_macroblock.proofs.ElementLaws.{count_most, IsPrefixFree-mode}
+use Rattle.h264_types.proofs.KindLaws.{mode_count-most}
+use Rattle.cavlc_macroblock.proofs.ElementLaws.{IsPrefixFree-mode}
 use Rattle.cavlc_macroblock.proofs.prediction.read_modes.Goals as goal
 
 pub returns-in_err-modes-clause-reads : goal.returns-in_err-modes-clause-reads
@@ -29,7 +30,7 @@ loop-n-preserved g c =
       completes =
           Completes-turn (λ (s : ℕ) mode. mode ≤ 8) (λ (s : ℕ) mode. mode_text mode) (λ (s mode : ℕ). s) all 0 _ (all - c.loop-n.n) (all - (c.loop-n.n + 1)) 0 0 _ _ _ _ c.in_ok-modes.field-0
           (omega (arith, inside)) IsPrefixFree-mode known.completes step.reads.0 step.reads.1 refl
-          (take_more_set c.loop-n.modes c.loop-n.n c.in_ok-modes.field-0 (omega (arith, known.size, inside, count_most c.args.t8)));
+          (take_more_set c.loop-n.modes c.loop-n.n c.in_ok-modes.field-0 (omega (arith, known.size, inside, mode_count-most c.args.t8)));
       kept = step.kept ∙ known.kept;
     }
 
