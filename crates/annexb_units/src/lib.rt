@@ -13,6 +13,3 @@ pub use escaping::escape;
 pub use splitter::{SplitFault, Splitter};
 pub use unescaping::{EscapeFault, has_payload, unescape};
 pub use writing::write_unit;
-
-#[cfg(test)]
-mod tests;

@@ -8,6 +8,3 @@ mod table;
 mod words;
 
 pub use table::{BadTable, InitTable};
-
-#[cfg(test)]
-mod tests;

@@ -8,6 +8,4 @@ pub mod laws;
 pub mod report;
 pub mod run;
 pub mod status;
-#[cfg(test)]
-mod tests;
 pub mod words;

@@ -23,6 +23,3 @@ pub use reading::read_slice;
 pub use recoding::recode_slice;
 pub use slice::{How, Slice, Written};
 pub use writing::write_slice;
-
-#[cfg(test)]
-mod tests;

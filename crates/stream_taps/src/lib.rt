@@ -6,8 +6,6 @@
 mod event;
 mod tally;
 mod tap;
-#[cfg(test)]
-mod tests;
 
 pub use event::Event;
 pub use tally::Tally;

@@ -1,6 +1,7 @@
+// The text of a table of initial values.
 ghost use Rattle.std.specs.Prelude.{◌<◌};
 
-use super::*;
+use init_table::InitTable;
 use std::alloc::{AllocError, Global};
 
 /// The number that stands at a place of the text below.

@@ -1,8 +1,10 @@
-use super::*;
+// Payloads without and with emulation prevention.
+use annexb_units::{EscapeFault, escape, has_payload, unescape};
 use std::test::Fail;
 
+// The payloads of units, and the bytes behind the header's.
 #[test]
-fn escapes(rt: HostRuntime) -> Result<(), Fail> {
+fn payloads_are_escaped(rt: HostRuntime) -> Result<(), Fail> {
     let pairs: [(&[u8], &[u8]); 8] = [
         (&[], &[]),
         (&[0x80, 0, 0x80], &[0x80, 0, 0x80]),
@@ -14,12 +16,15 @@ fn escapes(rt: HostRuntime) -> Result<(), Fail> {
         (&[0, 0, 0, 0, 1], &[0, 0, 3, 0, 0, 3, 1]),
     ];
     for (payload, bytes) in pairs {
-        let mut unit = Vec::new(rt.alloc());
-        unit.push(0x65)?;
+        let escaped = escape(rt.alloc(), payload)?;
+        assert_eq!(rt; escaped.as_slice(), bytes);
+        let mut unit = [0x65].to_vec(rt.alloc())?;
         unit.extend_from_slice(bytes)?;
-        assert!(rt;
-            matches!(unescape(rt.alloc(), unit.as_slice()), Ok(found) if found.as_slice() == payload)
-        );
+        assert!(rt; has_payload(unit.as_slice()));
+        match unescape(rt.alloc(), unit.as_slice()) {
+            Ok(found) => assert_eq!(rt; found.as_slice(), payload),
+            Err(_) => return Err(Fail::from("no payload")),
+        }
     }
     Ok(())
 }
@@ -38,18 +43,4 @@ fn bytes_of_no_payload(rt: HostRuntime) {
         assert!(rt; matches!(unescape(rt.alloc(), unit), Err(EscapeFault::BadEscape)));
         assert!(rt; !has_payload(unit));
     }
-}
-
-#[test]
-fn written(rt: HostRuntime) -> Result<(), Fail> {
-    let mut out = Vec::new(rt.alloc());
-    write_unit(rt.alloc(), &mut out, 0x65, &[0, 0, 0, 0x80])?;
-    write_unit(rt.alloc(), &mut out, 0x06, &[0x80, 0, 0])?;
-    let bytes = [
-        0, 0, 0, 1, 0x65, 0, 0, 3, 0, 0x80, 0, 0, 0, 1, 0x06, 0x80, 0, 0, 3,
-    ];
-    assert_eq!(rt; out.as_slice(), bytes.as_slice());
-    let escaped = escape(rt.alloc(), &[0, 0, 3, 0, 0, 4])?;
-    assert_eq!(rt; escaped.as_slice(), [0, 0, 3, 3, 0, 0, 4].as_slice());
-    Ok(())
 }

@@ -1,8 +1,8 @@
 // A tap of the tests, called through the trait.
 ghost use Rattle.std.specs.Prelude.{◌≡◌};
 
-use crate::{Event, Tally, Tap, Wish};
 use std::test::Fail;
+use stream_taps::{Event, Tally, Tap, Wish};
 
 #[derive(Drop)]
 struct Watch {

@@ -6,7 +6,7 @@ use Rattle.cavlc_syntax.specs.SliceText.{AreOfSlice}
 use Rattle.h264_types.specs.declared.macroblock.Mb.{Mb}
 use Rattle.h264_types.specs.declared.slice_shape.SliceShape.{SliceShape}
 use Rattle.slice_rewrite.proofs.SliceForms.{may_be_written, under_read}
-use Rattle.slice_rewrite.proofs.tests.written_with.Goals as goal
+use Rattle.stream_tests.proofs.slices.written_with.Goals as goal
 
 pub shape-requires : goal.shape-requires
 shape-requires c = let u = may_be_written _ _ _ _ _ c.in_ok-header.ensures.ok in (u.0, u.1.names, u.1.fits)

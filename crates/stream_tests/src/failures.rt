@@ -1,0 +1,140 @@
+// Runs over ends of which some calls fail, and within small bounds.
+use recode_run::run::run_within;
+use recode_run::status::Status;
+use std::alloc::Global;
+use std::process::Abort;
+use std::test::Fail;
+use unit_io::{MemSink, MemSource};
+
+/// The bound of a run.
+const MOST: u64 = 1 << 40;
+
+const CAVLC: &str = "recode --to cavlc --table flat";
+
+const CABAC: &str = "recode --to cabac --table flat";
+
+/// Five delimiters of which the last is cut behind its start code, and the four as they are written.
+const DELIMITERS: &[u8] = &[
+    0, 0, 1, 9, 0x10, 0, 0, 1, 9, 0x10, 0, 0, 1, 9, 0x10, 0, 0, 1, 9, 0x10, 0, 0, 1,
+];
+
+const WRITTEN: &[u8] = &[
+    0, 0, 0, 1, 9, 0x10, 0, 0, 0, 1, 9, 0x10, 0, 0, 0, 1, 9, 0x10, 0, 0, 0, 1, 9, 0x10,
+];
+
+const CAVLC_PPS: &[u8] = &[0, 0, 1, 0x68, 0xCE, 0x38, 0x80];
+
+const CABAC_PPS: &[u8] = &[0, 0, 0, 1, 0x68, 0xEE, 0x38, 0x80];
+
+/// A run: its words and bound, its input and how many bytes of it come in a read, the numbers of the reads and writes that
+/// fail, and what is due.
+#[derive(Clone, Copy)]
+struct Case<'a> {
+    words: &'a str,
+    bound: u64,
+    input: &'a [u8],
+    step: usize,
+    reads: &'a [u64],
+    writes: &'a [u64],
+    reports: &'a [u64],
+    status: Status,
+    output: &'a [u8],
+    report: &'a str,
+}
+
+pub fn words_of(alloc: Global, line: &str) -> Result<Vec<String>, Fail> {
+    let mut words = Vec::new(alloc);
+    for word in line.split(' ') {
+        words.push(word.to_string(alloc)?)?;
+    }
+    Ok(words)
+}
+
+// The run of a case, and whether it has its answer.
+fn expect(rt: &impl Abort, alloc: Global, case: &Case<'_>) -> Result<(), Fail> {
+    let words = words_of(alloc, case.words)?;
+    let step = case.step.max(1);
+    let mut src = MemSource::new(case.input.to_vec(alloc)?, step, case.reads.to_vec(alloc)?);
+    let mut out = MemSink::new(alloc, 100, case.writes.to_vec(alloc)?);
+    let mut report = MemSink::new(alloc, 4, case.reports.to_vec(alloc)?);
+    let status = run_within(
+        alloc,
+        words.as_slice(),
+        &mut src,
+        &mut out,
+        &mut report,
+        &mut Vec::new(alloc),
+        case.bound.min(MOST),
+    );
+    let told = case.report;
+    assert_eq!(rt; status, case.status, "at {told}");
+    assert_eq!(rt; out.held(), case.output, "at {told}");
+    assert_eq!(rt; report.held(), told.as_bytes());
+    Ok(())
+}
+
+#[test]
+fn ends_fail_and_bounds_are_met(rt: HostRuntime) -> Result<(), Fail> {
+    let good = Case {
+        words: CABAC,
+        bound: MOST,
+        input: CAVLC_PPS,
+        step: 2,
+        reads: &[],
+        writes: &[],
+        reports: &[],
+        status: Status::Ok,
+        output: CABAC_PPS,
+        report: "ok units 1 slices 0 macroblocks 0 in 7 out 8\n",
+    };
+    let cases = [
+        good,
+        // the second read, behind four units
+        Case {
+            words: CAVLC,
+            input: DELIMITERS,
+            step: 23,
+            reads: &[1],
+            status: Status::ReadFault,
+            output: WRITTEN,
+            report: "read fault\n",
+            ..good
+        },
+        // the first write of the stream, and of the report
+        Case {
+            writes: &[0],
+            status: Status::WriteFault,
+            output: &[],
+            report: "write fault\n",
+            ..good
+        },
+        Case {
+            reports: &[0],
+            status: Status::ReportFault,
+            report: "",
+            ..good
+        },
+        // the second write of the report, where a write takes four bytes
+        Case {
+            words: "recode --to cavlc",
+            reports: &[1],
+            status: Status::ReportFault,
+            output: &[],
+            report: "bad ",
+            ..good
+        },
+        // one byte more than the bound, and as many
+        Case {
+            bound: 6,
+            status: Status::TooMuch,
+            output: &[],
+            report: "too much\n",
+            ..good
+        },
+        Case { bound: 7, ..good },
+    ];
+    for case in &cases {
+        expect(&rt, rt.alloc(), case)?;
+    }
+    Ok(())
+}
