@@ -14,7 +14,6 @@ use Rattle.code_tables.specs.CodedBlockPattern.{pattern_at, pattern_list}
 use Rattle.code_tables.specs.declared.patterns.TheConstants.{INTRA_CODES, INTER_CODES}
 use Rattle.code_tables.proofs.CodeTables.{all_below-at}
 use Rattle.code_tables.proofs.PatternCodes.{intra_found, inter_found, pattern_small, one_code}
-use Rattle.h264_types.specs.Sent.{mode_count}
 use Rattle.h264_types.specs.declared.macroblock.Pattern.{Pattern}
 use Rattle.cavlc_macroblock.specs.MacroblockLayer.{mode_text, place_in, pattern_text, IsPattern, IsQpDelta, IsFlag, flag_text}
 

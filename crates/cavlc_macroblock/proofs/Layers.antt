@@ -4,7 +4,6 @@ use Rattle.std.specs.Prelude.{All, if◌then◌else◌, slice_index}
 use Rattle.std.specs.List.{AllByRecursion}
 use Rattle.std.specs.Option.{option_map}
 use Rattle.std.proofs.lemmas.Bool.{ltb-true}
-use Rattle.std.proofs.lemmas.Bool.Decides.{nat_tests}
 use Rattle.std.proofs.lemmas.List.Elements.{All-nil, All-cons, All-head, All-tail}
 use Rattle.bit_texts.specs.Bits.{binary, bits_of}
 use Rattle.bit_texts.specs.Cursor.{Cursor, cursor, Takes, Keeps}
