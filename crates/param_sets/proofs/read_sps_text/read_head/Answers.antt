@@ -1,6 +1,5 @@
 use Rattle.std.proofs.Common.{refl, sym, ap, ◌∙◌}
 use Rattle.std.specs.Prelude.{not}
-use Rattle.exp_golomb.specs.Syntax.{outcome_of}
 use Rattle.param_sets.specs.Refusal.{sps_says}
 use Rattle.param_sets.specs.SequenceParameterSet.{sps_head}
 use Rattle.param_sets.proofs.Straight.{absent, done, ends, passes, reads, refused}

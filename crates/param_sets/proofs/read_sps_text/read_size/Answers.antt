@@ -1,6 +1,5 @@
 use Rattle.std.proofs.Common.{◌≡◌, refl, rules, w32, to_z, of_z}
 use Rattle.std.proofs.lemmas.Int.{to_z-of_z}
-use Rattle.exp_golomb.specs.Syntax.{outcome_of}
 use Rattle.param_sets.specs.Refusal.{sps_says}
 use Rattle.param_sets.specs.SequenceParameterSet.{sps_size}
 use Rattle.param_sets.proofs.Straight.{absent, done, ends, here, part_fails, part_reads, reads}
