@@ -1,5 +1,5 @@
 // Slices read and written as lists of macroblocks.
-use h264_types::{Case, Layer, Mb, MbKind, has_sizes, valid};
+use h264_types::{Case, Layer, Mb, MbKind, valid};
 use param_sets::{Sets, read_pps, read_sps};
 use slice_header::shape;
 use slice_rewrite::{How, RewriteFault, Slice, read_slice, recode_slice, write_slice};
@@ -54,7 +54,6 @@ fn written_with(
     if !valid(&shape(sets, &header), &[*mb]) {
         return Err(Fail::from("no macroblock"));
     }
-    has_sizes(mb);
     let mut mbs = Vec::new(alloc);
     mbs.push(*mb)?;
     Ok(write_slice(alloc, sets, &Slice { header, mbs }, HOW))
