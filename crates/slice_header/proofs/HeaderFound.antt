@@ -10,6 +10,8 @@ use Rattle.param_sets.proofs.SetLaws.{nothing_spelled}
 use Rattle.param_sets.proofs.Spelled.{found_then, found_allowed, same_found, Begins, begins, begins_then, begins_last, ue_most}
 use Rattle.param_sets.specs.Sets.{SetMaps, find_pps, find_sps}
 use Rattle.header_parts.specs.ActiveSets.{Active}
+use Rattle.header_parts.specs.declared.active_sets.ActiveSets.{ActiveSets}
+use Rattle.slice_header.specs.Views.{without_sets}
 use Rattle.header_parts.specs.PartsOf.{picture_of, order_of, references_of, lists_of, marking_of, filter_of}
 use Rattle.header_parts.specs.Picture.{picture_number, picture_order, picture_text, order_text, PictureFits, OrderFits, IsDelta}
 use Rattle.header_parts.specs.QuantisationAndFilter.{slice_qp_y, is_qp, slice_qp, deblocking, deblocking_text, DeblockingFits}
@@ -349,18 +351,18 @@ header_again sets active h rest names allowed fits =
     (after_again active h rest fits) in
     spelled (slice_header sets h.nal) (header_text active h ++ rest) (Found h rest) read (λ k. cc)
 
+-- the sets of the start that was read
+pub start_found : (sets : SetMaps) (nal : ℕ) (bits mid : List Bool) (start : Start) (h : Header) (rest : List Bool) → outcome_of (slice_start sets) bits ≡ Found start mid → outcome_of (after_start nal start) mid ≡ Found h rest
+    → IsFound sets nal h bits rest start.active
+start_found sets nal bits mid start h rest s a =
+    found_parts sets nal bits mid start h rest (start_spelled sets bits start mid (spelled (slice_start sets) bits _ s (λ e. cc))) (after_spelled nal start mid h rest (spelled (after_start nal start) mid _ a (λ e. cc)))
+
 -- ---- what a reader answers
 
-pub reads : (sets : SetMaps) (nal : ℕ) (result : Result Header HeaderFault) (bits rest : List Bool) → Answers header_says (λ x. x) result rest (outcome_of (slice_header sets nal) bits) → ReadsHeader sets nal result bits rest
-reads sets nal (Ok h) bits rest k = spelled (slice_header sets nal) bits _ k (λ e. cc)
+pub reads : (sets : SetMaps) (nal : ℕ) (result : Result (Header × ActiveSets) HeaderFault) (bits rest : List Bool) → Answers header_says (λ read. read.0) result rest (outcome_of (slice_header sets nal) bits) → ReadsHeader sets nal (without_sets result) bits rest
+reads sets nal (Ok read) bits rest k = spelled (slice_header sets nal) bits _ k (λ e. cc)
 reads sets nal (Err NoReading) bits rest k = nothing_spelled (slice_header sets nal) bits k
 reads sets nal (Err (MissingPps number)) bits rest k = spelled (slice_header sets nal) bits _ k (λ e. cc)
 reads sets nal (Err (MissingSps number)) bits rest k = spelled (slice_header sets nal) bits _ k (λ e. cc)
 reads sets nal (Err Profile) bits rest k = spelled (slice_header sets nal) bits _ k (λ e. cc)
 reads sets nal (Err Memory) bits rest k = tt
-
-pub in_range : (sets : SetMaps) (nal : ℕ) (result : Result Header HeaderFault) (bits rest : List Bool) → Answers header_says (λ x. x) result rest (outcome_of (slice_header sets nal) bits) → IfOk result (λ h. IsUnder sets h × (h.nal ≡ nal))
-in_range sets nal (Ok h) bits rest k =
-    let f = header_spelled sets nal h bits rest (spelled (slice_header sets nal) bits _ k (λ e. cc)) in
-    ((f.0, f.1.names, f.1.fits), f.1.nal_is)
-in_range sets nal (Err fault) bits rest k = tt

@@ -10,7 +10,7 @@ mod slice_shape;
 mod slice_start;
 mod write_header_text;
 
-pub use header_parts::{Header, HeaderFault, MemoryManagement};
-pub use read_header_text::read_header;
-pub use slice_shape::{layer_of, shape};
-pub use write_header_text::write_header;
+pub use header_parts::{ActiveSets, Header, HeaderFault, MemoryManagement};
+pub use read_header_text::{read_header, read_header_with_sets};
+pub use slice_shape::{shape, shape_under};
+pub use write_header_text::{sets_of, write_header, write_header_under};

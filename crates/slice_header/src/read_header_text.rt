@@ -2,18 +2,19 @@ ghost use Rattle.std.specs.Prelude.{◌≡◌, ◌&&◌, not, IfOk, ◌++◌};
 ghost use Rattle.exp_golomb.specs.Syntax.{outcome_of, Answers};
 ghost use Rattle.param_sets.specs.PpsCodes.{IsPps};
 ghost use Rattle.param_sets.specs.SpsCodes.{IsSps};
-ghost use Rattle.slice_header.specs.HeaderCodes.{IsUnder, ReadsHeader};
+ghost use Rattle.slice_header.specs.HeaderCodes.{HeaderFits, IsUnder, Names, ReadsHeader};
+ghost use Rattle.header_parts.specs.ActiveSets.{active_view};
 ghost use Rattle.header_parts.specs.Refusal.{header_says};
 ghost use Rattle.slice_header.specs.SliceHeader.{has_init, after_start, slice_header};
-ghost use Rattle.slice_header.specs.Views.{start_view};
+ghost use Rattle.slice_header.specs.Views.{start_view, without_sets};
 
 use crate::read_start_text::read_start;
 use crate::slice_start::SliceStart;
 use exp_golomb::BitSource;
 use header_parts::read_element::ue_when;
 use header_parts::{
-    Header, HeaderFault, is_i_slice, read_active_references, read_deblocking, read_marking,
-    read_picture_number, read_picture_order, read_reference_lists, read_slice_qp,
+    ActiveSets, Header, HeaderFault, is_i_slice, read_active_references, read_deblocking,
+    read_marking, read_picture_number, read_picture_order, read_reference_lists, read_slice_qp,
 };
 use param_sets::{Pps, Sets};
 use std::alloc::Global;
@@ -84,23 +85,45 @@ fn read_after_start<B: BitSource>(
 }
 
 #[tactic(auto, using(exp_golomb::proofs::Syntaxes::outcome_of_then), unfolding(exp_golomb::specs::Syntax::outcome_of, crate::specs::SliceHeader::slice_header))]
-fn read_whole<B: BitSource>(
+fn read_whole<'a, B: BitSource>(
     alloc: Global,
-    sets: &Sets,
+    sets: &'a Sets,
     header: u8,
     bits: &mut B,
-) -> Result<Header, HeaderFault>
-    ensures answers { Answers header_says (λ x. x) result (B.left bits.new) (outcome_of (slice_header sets.now header) (B.left bits.old)) }
+) -> Result<(Header, ActiveSets<'a>), HeaderFault>
+    ensures answers { Answers header_says (λ read. read.0) result (B.left bits.new) (outcome_of (slice_header sets.now header) (B.left bits.old)) }
+    ensures in_range { IfOk result (λ read. IsSps read.1.sps.now × IsPps read.1.pps.now) }
+    ensures names { IfOk result (λ read. Names sets.now read.0.pic_parameter_set_id (active_view read.1)) }
+    ensures fits { IfOk result (λ read. HeaderFits (active_view read.1) read.0 × (read.0.nal ≡ header)) }
     ensures kept { B.taken bits.new ++ B.left bits.new ≡ B.taken bits.old ++ B.left bits.old }
 {
     let start = read_start(sets, bits)?;
-    read_after_start(alloc, header, &start, bits)
+    let h = read_after_start(alloc, header, &start, bits)?;
+    Ok((h, start.active))
 }
 
-/// The slice header (7.3.3) of a unit with this header byte, under the sets that stand; just its text is taken. A slice
-/// type of SP or SI is `Profile`, before a set is looked for. Then sets that don't stand are `MissingPps` and
-/// `MissingSps` with their number, and a transform of 8x8 blocks under Main is `Profile`, before frame_num. A text of no
-/// header is `NoReading`, at the element where it stops being one.
+/// The slice header (7.3.3) of a unit with this header byte, under the sets that stand, and the two sets that it names;
+/// just its text is taken. A slice type of SP or SI is `Profile`, before a set is looked for. Then sets that don't stand
+/// are `MissingPps` and `MissingSps` with their number, and a transform of 8x8 blocks under Main is `Profile`, before
+/// frame_num. A text of no header is `NoReading`, at the element where it stops being one.
+pub fn read_header_with_sets<'a, B: BitSource>(
+    alloc: Global,
+    sets: &'a Sets,
+    header: u8,
+    bits: &mut B,
+) -> Result<(Header, ActiveSets<'a>), HeaderFault>
+    ensures reads { ReadsHeader sets.now header (without_sets result) (B.left bits.old) (B.left bits.new) }
+    ensures names { IfOk result (λ read. Names sets.now read.0.pic_parameter_set_id (active_view read.1)) }
+    ensures fits { IfOk result (λ read. HeaderFits (active_view read.1) read.0 × (read.0.nal ≡ header)) }
+    ensures in_range { IfOk result (λ read. IsSps read.1.sps.now × IsPps read.1.pps.now) }
+    // The same as a function of the bits.
+    ensures exact { Answers header_says (λ read. read.0) result (B.left bits.new) (outcome_of (slice_header sets.now header) (B.left bits.old)) }
+    ensures kept { B.taken bits.new ++ B.left bits.new ≡ B.taken bits.old ++ B.left bits.old }
+{
+    read_whole(alloc, sets, header, bits)
+}
+
+/// The same without the sets.
 pub fn read_header<B: BitSource>(
     alloc: Global,
     sets: &Sets,
@@ -113,5 +136,6 @@ pub fn read_header<B: BitSource>(
     ensures exact { Answers header_says (λ x. x) result (B.left bits.new) (outcome_of (slice_header sets.now header) (B.left bits.old)) }
     ensures kept { B.taken bits.new ++ B.left bits.new ≡ B.taken bits.old ++ B.left bits.old }
 {
-    read_whole(alloc, sets, header, bits)
+    let (h, _) = read_header_with_sets(alloc, sets, header, bits)?;
+    Ok(h)
 }

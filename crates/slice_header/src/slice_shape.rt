@@ -1,13 +1,13 @@
 ghost use Rattle.std.specs.Prelude.{◌≡◌, ◌+◌, ◌*◌, ◌/◌, ◌≤◌};
 ghost use Rattle.param_sets.specs.SequenceParameterSet.{width_of, height_of};
-ghost use Rattle.param_sets.specs.PpsCodes.{IsPps, mode_flag_of};
+ghost use Rattle.param_sets.specs.PpsCodes.{IsPps};
 ghost use Rattle.param_sets.specs.SpsCodes.{IsSps};
 ghost use Rattle.slice_header.specs.HeaderCodes.{HeaderFits, Names, IsUnder};
 ghost use Rattle.slice_header.specs.Shape.{kind_of, is_mbaff, picture_height, first_address, column_of, shape_of};
 ghost use Rattle.header_parts.specs.ActiveSets.{Active, active_view};
 
 use crate::write_header_text::sets_of;
-use h264_types::{Layer, SliceKind, SliceShape};
+use h264_types::{SliceKind, SliceShape};
 use header_parts::{
     ActiveSets, Header, active_references_l0, active_references_l1, is_i_slice, references,
     slice_qp_y_of,
@@ -85,19 +85,8 @@ pub fn shape(sets: &Sets, h: &Header) -> SliceShape
     shape_under(&active, h)
 }
 
-/// The layer of a slice, that of the picture parameter set that its header names.
-pub fn layer_of(sets: &Sets, h: &Header) -> Layer
-    requires { IsUnder sets.now h.now }
-    ensures { (active : Active) → Names sets.now h.now.pic_parameter_set_id active → mode_flag_of result ≡ active.pps.entropy_coding_mode_flag }
-{
-    if sets_of(sets, h).pps.entropy_coding_mode_flag {
-        Layer::Cabac
-    } else {
-        Layer::Cavlc
-    }
-}
-
-fn shape_under(active: &ActiveSets<'_>, h: &Header) -> SliceShape
+/// The same under the sets that the header names.
+pub fn shape_under(active: &ActiveSets<'_>, h: &Header) -> SliceShape
     requires in_range { IsSps active.now.sps.now × IsPps active.now.pps.now }
     requires fits { HeaderFits (active_view active.now) h.now }
     ensures { result ≡ shape_of (active_view active.now) h.now }

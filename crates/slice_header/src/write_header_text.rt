@@ -57,9 +57,11 @@ fn write_start<B: BitSink>(out: &mut B, h: &Header, number: u8) -> Result<(), Me
     write_ue(out, u32::from(number))
 }
 
-/// Writes the header under these sets.
+/// Appends the text of a slice header (7.3.3) as it stands in a layer, naming the picture parameter set of this number;
+/// where cabac_init_idc stands, it is `idc`. These are the sets that the header names. Want of memory leaves a front of
+/// the text appended.
 #[tactic(auto, unfolding(crate::specs::HeaderCodes::header_text))]
-fn write_under<B: BitSink>(
+pub fn write_header_under<B: BitSink>(
     out: &mut B,
     active: &ActiveSets<'_>,
     h: &Header,
@@ -83,8 +85,7 @@ fn write_under<B: BitSink>(
     write_deblocking(out, active.pps.deblocking_filter_control_present_flag, h)
 }
 
-/// Appends the text of a slice header (7.3.3) as it stands in a layer, naming the picture parameter set of this number;
-/// where cabac_init_idc stands, it is `idc`. Want of memory leaves a front of the text appended.
+/// The same, where the sets that the header names are among those that stand.
 pub fn write_header<B: BitSink>(
     out: &mut B,
     sets: &Sets,
@@ -98,5 +99,5 @@ pub fn write_header<B: BitSink>(
     ensures { (active : Active) → Names sets.now h.now.pic_parameter_set_id active → Appends (B.bits out.old) (B.bits out.new) (header_text (active_in layer number active) (header_in layer number idc h.now)) result }
 {
     let active = sets_of(sets, h);
-    write_under(out, &active, h, layer, number, idc)
+    write_header_under(out, &active, h, layer, number, idc)
 }

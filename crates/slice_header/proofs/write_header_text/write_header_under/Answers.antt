@@ -7,7 +7,7 @@ use Rattle.slice_header.specs.HeaderCodes.{header_text}
 use Rattle.header_parts.specs.SliceTypes.{is_i}
 use Rattle.ref_pic_lists.proofs.Written.{stopped, within, behind, failed, ends, after, last}
 use Rattle.slice_header.proofs.Written.{init_appended, init_stopped}
-use Rattle.slice_header.proofs.write_header_text.write_under.Goals as goal
+use Rattle.slice_header.proofs.write_header_text.write_header_under.Goals as goal
 
 abbrev has : Layer → ℕ → Bool
 has layer slice_type = mode_flag_of layer && not (is_i slice_type)
