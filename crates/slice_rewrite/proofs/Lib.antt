@@ -1,4 +1,3 @@
-pub mod Named
 pub mod Normal
 pub mod Stops
 pub mod Slices

@@ -1,6 +1,6 @@
 -- What is written for a slice, and why nothing is.
 use Rattle.std.proofs.Common.{◌≡◌, inl, inr, ℕ, zero, suc, ◌+◌, ◌-◌, ◌%◌, ◌<◌, Bool, true, false, List, [], ◌∷◌, ◌++◌, length, get_or, map, take, drop, Option, Some, None, refl, sym, ap, subst, ◌∙◌, arith, length-append}
-use Rattle.std.specs.Prelude.{All, Result, Ok, Err, IfOk, IfErr}
+use Rattle.std.specs.Prelude.{◌||◌, All, Result, Ok, Err, IfOk, IfErr}
 use Rattle.std.proofs.lemmas.List.{map-append, take_more, take-append-drop}
 use Rattle.bit_texts.specs.Bits.{bits_of}
 use Rattle.bit_texts.specs.Texts.{Appended}
@@ -36,11 +36,13 @@ use Rattle.slice_rewrite.specs.declared.fault.RewriteFault.{RewriteFault}
 use Rattle.slice_rewrite.specs.declared.fault.RewriteFault.TheVariants.{Outside, Stop, Memory}
 use Rattle.slice_rewrite.specs.Items.{is_unbuilt, IsSliceOf}
 use Rattle.slice_rewrite.specs.Stops.{least_stop}
-use Rattle.slice_rewrite.specs.Verdict.{IsNoSlice}
+use Rattle.slice_rewrite.specs.Verdict.{IsNoData, IsNoSlice}
 use Rattle.slice_rewrite.specs.Written.{written_mb, slice_under, slice_in, slice_bits}
-use Rattle.slice_rewrite.specs.SliceForms.{Ends, IsSliceForm, IsSliceRefusal, coded, IsSliceRead, IsNotOpened, IsOpened, IsUnderSets, IsSliceWritten, IsNotWritten, IsCopy, IsNoCopy, IsNoDataRead, IsDataWritten, IsNoDataWritten, fault_of_header, fault_of_data}
+use Rattle.slice_rewrite.specs.declared.opening.OpenSlice.{OpenSlice}
+use Rattle.slice_rewrite.specs.Faults.{fault_of_header, fault_of_data}
+use Rattle.slice_rewrite.specs.SliceForms.{sets_in, Ends, IsSliceForm, IsSliceRefusal, coded, IsSliceRead, IsNotOpened, IsOpened, IsUnderSets, IsSliceWritten, IsNotWritten, IsCopy, IsNoCopy, IsNoDataRead, IsDataWritten, IsNoDataWritten}
 use Rattle.slice_rewrite.proofs.Normal.{all_front, front_written, written_sizes}
-use Rattle.slice_rewrite.proofs.Slices.{fit, not_unbuilt, names-once, header-found, no_data, built_shape, built_under}
+use Rattle.slice_rewrite.proofs.Slices.{fit, not_unbuilt, names-once, header-once, header-found, built_shape, built_under}
 use Rattle.slice_rewrite.proofs.Stops.{none_emptied}
 
 -- ## The header
@@ -52,22 +54,15 @@ header_fault to sets header bits rest (headers.MissingSps number) h = inl (inr (
 header_fault to sets header bits rest headers.Profile h = inl (inr (OutsideProfile, refl, h))
 header_fault to sets header bits rest headers.Memory h = tt
 
--- what is_unbuilt answers, under the sets that are named
-abbrev pub IsJudged : Layer → SetMaps → Header → Bool → Type 0
-IsJudged to sets h unbuilt = (active : Active) → Names sets h.pic_parameter_set_id active → unbuilt ≡ is_unbuilt to active h
+pub header_unbuilt : (to : Layer) (sets : SetMaps) (header : ℕ) (bits rest : List Bool) (h : Header) (active : Active) → HeaderText sets header h bits rest → Names sets h.pic_parameter_set_id active → is_unbuilt to active h ≡ true
+    → IsNotOpened to sets header bits (Outside NotBuiltYet)
+header_unbuilt to sets header bits rest h active text names unbuilt =
+    let P : Bool → Type 0 = λ b. IsNoData b (shape_of active h) (length bits - length rest) rest NotBuiltYet in
+    inr (record { h = h; active = active; names = names; rest = rest; header_is = text; none = subst P (sym unbuilt) refl })
 
-pub header_unbuilt : (to : Layer) (sets : SetMaps) (header : ℕ) (bits left rest : List Bool) (h : Header) → left ≡ bits → ReadsHeader sets header (Ok h) left rest → IsJudged to sets h true → IsNotOpened to sets header bits (Outside NotBuiltYet)
-header_unbuilt to sets header bits left rest h all text judged =
-    let P : List Bool → Type 0 = λ b. ReadsHeader sets header (Ok h) b rest in
-    let read = subst P all text in
-    let f = header-found sets header bits rest h read in
-    no_data to sets header bits rest h f read true NotBuiltYet (sym (judged f.active f.names)) refl
-
-pub header_opened : (to : Layer) (sets : SetMaps) (header : ℕ) (bits taken left taken' left' : List Bool) (h : Header) → left ≡ bits → taken ≡ [] → ReadsHeader sets header (Ok h) left left' → IsUnder sets h → taken' ++ left' ≡ taken ++ left
-    → IsJudged to sets h false → IsOpened to sets header bits h taken' left'
-header_opened to sets header bits taken left taken' left' h all none text under kept judged =
-    let P : List Bool → Type 0 = λ b. ReadsHeader sets header (Ok h) b left' in
-    record { text = subst P all text; under = under; built = λ active names. sym (judged active names); kept = kept ∙ ap (λ t. t ++ left) none ∙ all }
+-- what is_unbuilt answers of a shape, it answers of the header
+pub judged : (to : Layer) (active : Active) (h : Header) (shape : SliceShape) → shape ≡ shape_of active h → (shape.mbaff || (active.pps.entropy_coding_mode_flag || mode_flag_of to)) ≡ is_unbuilt to active h
+judged to active h shape is = ap (λ (s : SliceShape). s.mbaff || (active.pps.entropy_coding_mode_flag || mode_flag_of to)) is
 
 -- ## The data behind it
 
@@ -75,44 +70,36 @@ header_opened to sets header bits taken left taken' left' h all none text under 
 places : (bits taken rest : List Bool) → taken ++ rest ≡ bits → length taken ≡ length bits - length rest
 places bits taken rest kept = omega (arith, length-append taken rest, ap length kept)
 
--- the shape of the slice, and what is known of its sets
-abbrev pub IsShape : SetMaps → Header → SliceShape → Type 0
-IsShape sets h shape = (active : Active) → Names sets h.pic_parameter_set_id active → shape ≡ shape_of active h
-
-abbrev pub AreSets : SetMaps → Header → Type 0
-AreSets sets h = (active : Active) → Names sets h.pic_parameter_set_id active → IsSps active.sps
-
-pub shape_built : (to : Layer) (sets : SetMaps) (header : ℕ) (bits taken rest : List Bool) (h : Header) (shape : SliceShape) → IsOpened to sets header bits h taken rest → IsShape sets h shape → AreSets sets h → IsBuiltShape shape
-shape_built to sets header bits taken rest h shape r is range =
-    let f = header-found sets header bits rest h r.text in
-    subst IsBuiltShape (sym (is f.active f.names)) (built_under to f.active h (range f.active f.names) f.fits (r.built f.active f.names))
+pub shape_built : (to : Layer) (sets : SetMaps) (header : ℕ) (bits : List Bool) (s : OpenSlice) → IsOpened to sets header bits s → IsBuiltShape s.shape
+shape_built to sets header bits s r = subst IsBuiltShape (sym r.shape) (built_under to (sets_in s) s.header r.in_range.0 r.fits r.built)
 
 -- the slice of this header and these data
-pub slice_opened : (to : Layer) (sets : SetMaps) (header : ℕ) (bits taken rest : List Bool) (h : Header) (shape : SliceShape) (mbs : List Mb) → IsOpened to sets header bits h taken rest → IsShape sets h shape
-    → HasText shape mbs → rest ≡ slice_text shape (length taken) mbs → (active : Active) × Names sets h.pic_parameter_set_id active × IsSliceOf to sets header bits (coded active h mbs)
-slice_opened to sets header bits taken rest h shape mbs r is list read =
-    let f = header-found sets header bits rest h r.text in
-    let T : SliceShape → Type 0 = λ s. HasText s mbs in
-    let same = is f.active f.names in (
-      f.active,
-      f.names,
-      record {
-        names = f.names;
-        rest = rest;
-        header_is = r.text;
-        built = r.built f.active f.names;
-        list = subst T same list;
-        rest_is = read ∙ ap (λ s. slice_text s (length taken) mbs) same ∙ ap (λ n. slice_text (shape_of f.active h) n mbs) (places bits taken rest r.kept);
-      },
-    )
+pub slice_opened : (to : Layer) (sets : SetMaps) (header : ℕ) (bits : List Bool) (s : OpenSlice) (mbs : List Mb) → IsOpened to sets header bits s → HasText s.shape mbs → s.bits.left ≡ slice_text s.shape (length s.bits.taken) mbs
+    → IsSliceOf to sets header bits (coded (sets_in s) s.header mbs)
+slice_opened to sets header bits s mbs r list read =
+    let T : SliceShape → Type 0 = λ shape. HasText shape mbs in
+    record {
+      names = r.names;
+      rest = s.bits.left;
+      header_is = r.text;
+      built = r.built;
+      list = subst T r.shape list;
+      rest_is = read ∙ ap (λ shape. slice_text shape (length s.bits.taken) mbs) r.shape ∙ ap (λ n. slice_text (shape_of (sets_in s) s.header) n mbs) (places bits s.bits.taken s.bits.left r.kept);
+    }
 
-pub data_refused : (to : Layer) (sets : SetMaps) (header : ℕ) (bits taken rest : List Bool) (h : Header) (shape : SliceShape) (why : Why) → IsOpened to sets header bits h taken rest → IsShape sets h shape → why ≡ BadSlice → NoList shape (length taken) rest
-    → IsNoSlice to sets header bits why
-data_refused to sets header bits taken rest h shape why r is bad none =
-    let f = header-found sets header bits rest h r.text in
-    let P : SliceShape → Type 0 = λ s. NoList s (length taken) rest in
-    let Q : ℕ → Type 0 = λ n. NoList (shape_of f.active h) n rest in
-    no_data to sets header bits rest h f r.text false why (r.built f.active f.names) (bad, subst Q (places bits taken rest r.kept) (subst P (is f.active f.names) none))
+pub data_refused : (to : Layer) (sets : SetMaps) (header : ℕ) (bits : List Bool) (s : OpenSlice) (why : Why) → IsOpened to sets header bits s → why ≡ BadSlice → NoList s.shape (length s.bits.taken) s.bits.left → IsNoSlice to sets header bits why
+data_refused to sets header bits s why r bad none =
+    let P : SliceShape → Type 0 = λ shape. NoList shape (length s.bits.taken) s.bits.left in
+    let Q : ℕ → Type 0 = λ n. NoList (shape_of (sets_in s) s.header) n s.bits.left in
+    let N : Bool → Type 0 = λ b. IsNoData b (shape_of (sets_in s) s.header) (length bits - length s.bits.left) s.bits.left why in
+    inr (record {
+      h = s.header;
+      active = sets_in s;
+      names = r.names;
+      rest = s.bits.left;
+      header_is = r.text;
+      none = subst N (sym r.built) (bad, subst Q (places bits s.bits.taken s.bits.left r.kept) (subst P r.shape none));
+    })
 
 -- ## Reading
 
@@ -120,15 +107,13 @@ pub no_data_read : (shape : SliceShape) (pos : ℕ) (left : List Bool) (fault : 
 no_data_read shape pos left macroblocks.NoReading h = (refl, h)
 no_data_read shape pos left macroblocks.Memory h = tt
 
-pub not_read : (to : Layer) (sets : SetMaps) (header : ℕ) (bits taken rest : List Bool) (h : Header) (shape : SliceShape) (fault : RewriteFault) → IsOpened to sets header bits h taken rest → IsShape sets h shape → IsNoDataRead shape (length taken) rest fault
-    → IsNotOpened to sets header bits fault
-not_read to sets header bits taken rest h shape (Outside why) r is none = data_refused to sets header bits taken rest h shape why r is none.0 none.1
-not_read to sets header bits taken rest h shape (Stop case k) r is none = none
-not_read to sets header bits taken rest h shape Memory r is none = tt
+pub not_read : (to : Layer) (sets : SetMaps) (header : ℕ) (bits : List Bool) (s : OpenSlice) (fault : RewriteFault) → IsOpened to sets header bits s → IsNoDataRead s.shape (length s.bits.taken) s.bits.left fault → IsNotOpened to sets header bits fault
+not_read to sets header bits s (Outside why) r none = data_refused to sets header bits s why r none.0 none.1
+not_read to sets header bits s (Stop case k) r none = none
+not_read to sets header bits s Memory r none = tt
 
-pub slice_read : (sets : SetMaps) (header : ℕ) (bits taken rest : List Bool) (h : Header) (shape : SliceShape) (mbs : List Mb) → IsOpened Cavlc sets header bits h taken rest → IsShape sets h shape → HasText shape mbs → rest ≡ slice_text shape (length taken) mbs
-    → IsSliceRead sets header bits h mbs
-slice_read sets header bits taken rest h shape mbs r is list read = let s = slice_opened Cavlc sets header bits taken rest h shape mbs r is list read in (s.0, s.2)
+pub slice_read : (sets : SetMaps) (header : ℕ) (bits : List Bool) (s : OpenSlice) (mbs : List Mb) → IsOpened Cavlc sets header bits s → HasText s.shape mbs → s.bits.left ≡ slice_text s.shape (length s.bits.taken) mbs → IsSliceRead sets header bits s.header mbs
+slice_read sets header bits s mbs r list read = (sets_in s, slice_opened Cavlc sets header bits s mbs r list read)
 
 -- ## Writing
 
@@ -150,6 +135,14 @@ payload_written to number idc active h mbs shape out after payload is written pu
 
 pub data_fills : (shape : SliceShape) (before after : List Bool) (mbs : List Mb) → after ≡ before ++ slice_text shape (length before) mbs → length after % 8 ≡ 0
 data_fills shape before after mbs e = ap (λ x. length x % 8) e ∙ ap (λ n. n % 8) (length-append before (slice_text shape (length before) mbs)) ∙ slice_fills shape (length before) mbs
+
+-- the shape of the slice under the sets that its header names
+abbrev pub IsShape : SetMaps → Header → SliceShape → Type 0
+IsShape sets h shape = (active : Active) → Names sets h.pic_parameter_set_id active → shape ≡ shape_of active h
+
+-- what holds of the sets that were found holds of those that the header names
+pub under_named : (P : Active → Type 0) (sets : SetMaps) (n : ℕ) (found : Active) → Names sets n found → P found → (active : Active) → Names sets n active → P active
+under_named P sets n found names p active others = subst P (names-once sets n found active names others) p
 
 all_snoc : (P : Mb → Type 0) (done : List Mb) (mb : Mb) → All P done → P mb → All P (done ++ mb ∷ [])
 all_snoc P [] mb is p zero d below = p
@@ -210,11 +203,11 @@ may_be_written sets header bits h mbs r =
     let A : Active → Type 0 = λ a. AreOfSlice (shape_of a h) mbs in
     under_read sets header bits h mbs mbs r (λ active names. subst A (names-once sets h.pic_parameter_set_id r.0 active is.names names) is.list.are)
 
-pub under_built : (sets : SetMaps) (active : Active) (h : Header) (mbs : List Mb) (shape : SliceShape) → IsUnderSets sets active h mbs → IsShape sets h shape → AreSets sets h → IsBuiltShape shape × AreOfSlice shape mbs
+pub under_built : (sets : SetMaps) (active : Active) (h : Header) (mbs : List Mb) (shape : SliceShape) → IsUnderSets sets active h mbs → IsShape sets h shape → IsSps active.sps → IsBuiltShape shape × AreOfSlice shape mbs
 under_built sets active h mbs shape u is range =
     let A : SliceShape → Type 0 = λ s. AreOfSlice s mbs in
     let same = sym (is active u.names) in
-    (subst IsBuiltShape same (built_shape active h (range active u.names) u.fits u.built), subst A same u.are)
+    (subst IsBuiltShape same (built_shape active h range u.fits u.built), subst A same u.are)
 
 -- ## Reading and writing
 
@@ -243,39 +236,34 @@ data_stopped bits writer shape pos all done (Some stop) count result text read s
 is_cavlc : {A : Type 0} → mode_flag_of Cabac ≡ false → A
 is_cavlc e = absurd cc
 
-pub not_copied : (to : Layer) (sets : SetMaps) (header : ℕ) (bits taken rest : List Bool) (h : Header) (shape : SliceShape) (fault : RewriteFault) → mode_flag_of to ≡ false → IsOpened to sets header bits h taken rest → IsShape sets h shape
-    → IsNoCopy shape (length taken) rest fault → IsSliceRefusal to sets header bits fault
-not_copied Cabac sets header bits taken rest h shape fault e r is none = is_cavlc e
-not_copied Cavlc sets header bits taken rest h shape (Outside why) e r is none = data_refused Cavlc sets header bits taken rest h shape why r is none.0 none.1
-not_copied Cavlc sets header bits taken rest h shape (Stop case k) e r is none =
-    let s = slice_opened Cavlc sets header bits taken rest h shape none.0 r is none.1 none.2 in
-    (coded s.0 h none.0, s.2, ap (λ x. least_stop Cavlc x none.0) (sym (is s.0 s.1)) ∙ none.3)
-not_copied Cavlc sets header bits taken rest h shape Memory e r is none = tt
+pub not_copied : (to : Layer) (sets : SetMaps) (header : ℕ) (bits : List Bool) (s : OpenSlice) (fault : RewriteFault) → mode_flag_of to ≡ false → IsOpened to sets header bits s → IsNoCopy s.shape (length s.bits.taken) s.bits.left fault
+    → IsSliceRefusal to sets header bits fault
+not_copied Cabac sets header bits s fault e r none = is_cavlc e
+not_copied Cavlc sets header bits s (Outside why) e r none = data_refused Cavlc sets header bits s why r none.0 none.1
+not_copied Cavlc sets header bits s (Stop case k) e r none =
+    (coded (sets_in s) s.header none.0, slice_opened Cavlc sets header bits s none.0 r none.1 none.2, ap (λ x. least_stop Cavlc x none.0) (sym r.shape) ∙ none.3)
+not_copied Cavlc sets header bits s Memory e r none = tt
 
-pub copied : (to : Layer) (number : ℕ) (sets : SetMaps) (header : ℕ) (bits taken rest : List Bool) (h : Header) (shape : SliceShape) (start out after : List Bool) (payload : List ℕ) (count : ℕ) → mode_flag_of to ≡ false
-    → IsOpened to sets header bits h taken rest → IsShape sets h shape → start ≡ []
-    → ((a : Active) → Names sets h.pic_parameter_set_id a → Appended start out (header_text (active_in to number a) (header_in to number 0 h)))
-    → IsCopy shape (length taken) rest out after count → bits_of payload ≡ after → IsSliceForm to number sets header bits payload count
-copied Cabac number sets header bits taken rest h shape start out after payload count e r is none put k bytes = is_cavlc e
-copied Cavlc number sets header bits taken rest h shape start out after payload count e r is none put k bytes =
-    let s = slice_opened Cavlc sets header bits taken rest h shape k.mbs r is k.list k.read in
-    record {
-      slice = coded s.0 h k.mbs;
-      read = s.2;
-      goes_on = ap (λ x. least_stop Cavlc x k.mbs) (sym (is s.0 s.1)) ∙ k.goes_on;
-      written = payload_written Cavlc number 0 s.0 h k.mbs shape out after payload (is s.0 s.1) (header_written Cavlc number 0 s.0 h start out none (put s.0 s.1)) k.written bytes;
-      count = k.counted;
-    }
+pub copied : (to : Layer) (number : ℕ) (sets : SetMaps) (header : ℕ) (bits : List Bool) (s : OpenSlice) (start out after : List Bool) (payload : List ℕ) (count : ℕ) → mode_flag_of to ≡ false → IsOpened to sets header bits s → start ≡ []
+    → Appended start out (header_text (active_in to number (sets_in s)) (header_in to number 0 s.header)) → IsCopy s.shape (length s.bits.taken) s.bits.left out after count → bits_of payload ≡ after → IsSliceForm to number sets header bits payload count
+copied Cabac number sets header bits s start out after payload count e r none put k bytes = is_cavlc e
+copied Cavlc number sets header bits s start out after payload count e r none put k bytes = record {
+  slice = coded (sets_in s) s.header k.mbs;
+  read = slice_opened Cavlc sets header bits s k.mbs r k.list k.read;
+  goes_on = ap (λ x. least_stop Cavlc x k.mbs) (sym r.shape) ∙ k.goes_on;
+  written = payload_written Cavlc number 0 (sets_in s) s.header k.mbs s.shape out after payload r.shape (header_written Cavlc number 0 (sets_in s) s.header start out none put) k.written bytes;
+  count = k.counted;
+}
+
+-- the wanted layer of a slice that was opened for it
+pub wanted : (to : Layer) (sets : SetMaps) (header : ℕ) (bits : List Bool) (s : OpenSlice) → IsOpened to sets header bits s → mode_flag_of to ≡ false
+wanted to sets header bits s r = (fit to (sets_in s) s.header r.built).wanted
 
 -- under the number of the set that it names, a slice is written as it stands in the layer
-pub written_under_own : (to : Layer) (number : ℕ) (sets : SetMaps) (header : ℕ) (bits : List Bool) (payload : List ℕ) (macroblocks : ℕ) (f : IsSliceForm to number sets header bits payload macroblocks)
-    → ((h : Header) (rest : List Bool) → HeaderText sets header h bits rest → number ≡ h.pic_parameter_set_id) → bits_of payload ≡ slice_bits (slice_in to f.slice)
-written_under_own to number sets header bits payload macroblocks f own =
-    f.written ∙ ap (λ n. slice_bits (slice_under to n 0 f.slice)) (own f.slice.header f.read.rest f.read.header_is)
-
--- the wanted layer of a slice whose header was read so
-pub wanted : (to : Layer) (sets : SetMaps) (header : ℕ) (bits taken rest : List Bool) (h : Header) → IsOpened to sets header bits h taken rest → mode_flag_of to ≡ false
-wanted to sets header bits taken rest h r = let f = header-found sets header bits rest h r.text in (fit to f.active h (r.built f.active f.names)).wanted
+pub written_under_own : (to : Layer) (sets : SetMaps) (header : ℕ) (bits : List Bool) (s : OpenSlice) (payload : List ℕ) (macroblocks : ℕ) → IsOpened to sets header bits s → (f : IsSliceForm to s.header.pic_parameter_set_id sets header bits payload macroblocks)
+    → bits_of payload ≡ slice_bits (slice_in to f.slice)
+written_under_own to sets header bits s payload macroblocks r f =
+    f.written ∙ ap (λ (h : Header). slice_bits (slice_under to h.pic_parameter_set_id 0 f.slice)) (header-once to sets header bits s.header f.slice.header s.bits.left f.read.rest r.text f.read.header_is).0
 
 pub refused_as : (to : Layer) (sets : SetMaps) (header : ℕ) (bits : List Bool) (fault : RewriteFault) → IsNotOpened to sets header bits fault → IsSliceRefusal to sets header bits fault
 refused_as to sets header bits (Outside why) h = h

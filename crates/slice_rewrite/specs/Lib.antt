@@ -4,3 +4,4 @@ pub mod Stops
 pub mod Verdict
 pub mod View
 pub mod SliceForms
+pub mod Faults

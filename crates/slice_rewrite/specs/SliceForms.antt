@@ -1,28 +1,26 @@
 -- What is written for a slice, and why nothing is.
 use Rattle.std.specs.Prelude.{◌≡◌, ℕ, Bool, false, List, [], ◌∷◌, ◌++◌, length, map, Option, Some, None, Result, Ok, Err}
+use Rattle.std.specs.declared.alloc.AllocError.{AllocError}
 use Rattle.bit_texts.specs.Bits.{bits_of}
 use Rattle.cavlc_syntax.specs.SliceText.{IsBuilt, AreOfSlice, HasText, slice_text, NoList}
 use Rattle.cavlc_syntax.specs.Written.{WritesFor}
-use Rattle.cavlc_syntax.specs.declared.fault.SliceFault.{SliceFault}
-use Rattle.cavlc_syntax.specs.declared.fault.SliceFault.TheVariants as macroblocks
 use Rattle.cavlc_syntax.specs.declared.writer.CavlcWriter.{CavlcWriter}
 use Rattle.h264_types.specs.declared.fault.Case.{Case}
-use Rattle.h264_types.specs.declared.fault.Why.TheVariants.{Profile as BadProfile, Header as BadHeader, MissingSps, MissingPps, Slice as BadSlice}
+use Rattle.h264_types.specs.declared.fault.Why.TheVariants.{Slice as BadSlice}
 use Rattle.h264_types.specs.declared.layer.Layer.{Layer}
 use Rattle.h264_types.specs.declared.layer.Layer.TheVariants.{Cavlc}
 use Rattle.h264_types.specs.declared.macroblock.Mb.{Mb}
 use Rattle.h264_types.specs.declared.slice_shape.SliceShape.{SliceShape}
+use Rattle.param_sets.specs.PpsCodes.{IsPps}
 use Rattle.param_sets.specs.Sets.{SetMaps}
-use Rattle.slice_header.specs.HeaderCodes.{HeaderFits, HeaderText, IsUnder, Names}
+use Rattle.param_sets.specs.SpsCodes.{IsSps}
+use Rattle.slice_header.specs.HeaderCodes.{HeaderFits, HeaderText, Names}
 use Rattle.slice_header.specs.Shape.{shape_of}
-use Rattle.header_parts.specs.ActiveSets.{Active}
-use Rattle.header_parts.specs.declared.fault.HeaderFault.{HeaderFault}
-use Rattle.header_parts.specs.declared.fault.HeaderFault.TheVariants as headers
+use Rattle.header_parts.specs.ActiveSets.{Active, active_view}
 use Rattle.header_parts.specs.declared.header.Header.{Header}
 use Rattle.slice_rewrite.specs.declared.fault.RewriteFault.{RewriteFault}
 use Rattle.slice_rewrite.specs.declared.fault.RewriteFault.TheVariants.{Outside, Stop, Memory}
-use Rattle.slice_rewrite.specs.declared.put.WriteFault.{WriteFault}
-use Rattle.slice_rewrite.specs.declared.put.WriteFault.TheVariants as put
+use Rattle.slice_rewrite.specs.declared.opening.OpenSlice.{OpenSlice}
 use Rattle.slice_rewrite.specs.Items.{Slice, is_unbuilt, IsSliceOf}
 use Rattle.slice_rewrite.specs.Stops.{mb_stop, least_stop, slice_stop}
 use Rattle.slice_rewrite.specs.Verdict.{IsNoSlice}
@@ -58,12 +56,19 @@ IsNotOpened to sets header bits (Outside why) = IsNoSlice to sets header bits wh
 IsNotOpened to sets header bits (Stop case k) = ⊥
 IsNotOpened to sets header bits Memory = Unit {0}
 
--- the header of a slice whose data can be read was read, and these bits are left behind it
-pub record IsOpened (to : Layer) (sets : SetMaps) (header : ℕ) (bits : List Bool) (h : Header) (taken rest : List Bool) : Type 0 where
-  pub text : HeaderText sets header h bits rest
-  pub under : IsUnder sets h
-  pub built : (active : Active) → Names sets h.pic_parameter_set_id active → is_unbuilt to active h ≡ false
-  pub kept : taken ++ rest ≡ bits
+-- the sets that were found for it
+abbrev pub sets_in : OpenSlice → Active
+sets_in s = active_view s.active
+
+-- the header of a slice whose data can be read was read, with the sets that it names, and the bits behind it are left
+pub record IsOpened (to : Layer) (sets : SetMaps) (header : ℕ) (bits : List Bool) (s : OpenSlice) : Type 0 where
+  pub text : HeaderText sets header s.header bits s.bits.left
+  pub names : Names sets s.header.pic_parameter_set_id (sets_in s)
+  pub fits : HeaderFits (sets_in s) s.header
+  pub in_range : IsSps (sets_in s).sps × IsPps (sets_in s).pps
+  pub built : is_unbuilt to (sets_in s) s.header ≡ false
+  pub shape : s.shape ≡ shape_of (sets_in s) s.header
+  pub kept : s.bits.taken ++ s.bits.left ≡ bits
 
 -- a slice under these sets: its header is in range, and the macroblocks are those of a slice of its shape
 pub record IsUnderSets (sets : SetMaps) (active : Active) (h : Header) (mbs : List Mb) : Type 0 where
@@ -125,20 +130,7 @@ Ends bits writer None count (Err fault) = fault ≡ Memory
 Ends bits writer (Some stop) count result = result ≡ Err (Stop stop.0 stop.1)
 
 -- what putting a macroblock in its written form says: it was put, or it can't be written, or there is no memory
-abbrev pub PutsWritten : {B : Type 0} → (B → List Bool) → CavlcWriter B → SliceShape → List Bool → List Mb → Mb → Result (Unit {0}) WriteFault → Type 0
-PutsWritten bits new shape before done mb (Ok x) = (mb_stop Cavlc shape mb ≡ None) × WritesFor bits new shape before (done ++ written_mb Cavlc mb ∷ [])
-PutsWritten bits new shape before done mb (Err (put.Stop case)) = mb_stop Cavlc shape mb ≡ Some case
-PutsWritten bits new shape before done mb (Err put.Memory) = Unit {0}
-
--- ## Faults of the layers below
-
-abbrev pub fault_of_header : HeaderFault → RewriteFault
-fault_of_header headers.NoReading = Outside BadHeader
-fault_of_header (headers.MissingPps number) = Outside (MissingPps number)
-fault_of_header (headers.MissingSps number) = Outside (MissingSps number)
-fault_of_header headers.Profile = Outside BadProfile
-fault_of_header headers.Memory = Memory
-
-abbrev pub fault_of_data : SliceFault → RewriteFault
-fault_of_data macroblocks.NoReading = Outside BadSlice
-fault_of_data macroblocks.Memory = Memory
+abbrev pub PutsWritten : {B : Type 0} → (B → List Bool) → CavlcWriter B → SliceShape → List Bool → List Mb → Mb → Result (Option Case) AllocError → Type 0
+PutsWritten bits new shape before done mb (Ok None) = (mb_stop Cavlc shape mb ≡ None) × WritesFor bits new shape before (done ++ written_mb Cavlc mb ∷ [])
+PutsWritten bits new shape before done mb (Ok (Some case)) = mb_stop Cavlc shape mb ≡ Some case
+PutsWritten bits new shape before done mb (Err fault) = Unit {0}

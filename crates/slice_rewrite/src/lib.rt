@@ -8,7 +8,6 @@ mod kinds;
 pub mod laws;
 mod opening;
 mod plan;
-mod pps_number;
 mod put;
 mod reading;
 mod recoding;
@@ -17,8 +16,8 @@ mod writing;
 
 pub use fault::RewriteFault;
 pub use kinds::{UnitKind, unit_kind, unit_type};
+pub use opening::{OpenSlice, open_slice};
 pub use plan::Plan;
-pub use pps_number::named_set;
 pub use reading::read_slice;
 pub use recoding::recode_slice;
 pub use slice::{How, Slice, Written};

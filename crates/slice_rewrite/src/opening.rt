@@ -1,47 +1,67 @@
-// The header of a slice, before its macroblocks are read.
-ghost use Rattle.std.specs.Prelude.{◌≡◌, IfOk, IfErr};
+// A slice whose header was read, before its macroblocks are.
+ghost use Rattle.std.specs.Prelude.{◌≡◌, ◌≤◌, ℕ, ◌||◌, List, Bool, IfOk, IfErr};
 ghost use Rattle.bit_texts.specs.Bits.{bits_of};
-ghost use Rattle.slice_header.specs.HeaderCodes.{IsUnder, Names};
-ghost use Rattle.header_parts.specs.ActiveSets.{Active};
-ghost use Rattle.slice_rewrite.specs.Items.{is_unbuilt};
+ghost use Rattle.param_sets.specs.PpsCodes.{mode_flag_of};
 ghost use Rattle.slice_rewrite.specs.SliceForms.{IsOpened, IsNotOpened};
 
-use crate::fault::{RewriteFault, fault_of_header};
+use crate::fault::RewriteFault;
 use exp_golomb::SliceBits;
-use h264_types::{Layer, Why};
+use h264_types::{Layer, SliceShape, Why};
 use param_sets::Sets;
-use slice_header::{Header, layer_of, read_header, shape};
+use slice_header::{ActiveSets, Header, read_header_with_sets, shape_under};
 use std::alloc::Global;
 
-/// Reads the header of a slice that is to be written in a layer, and gives the bits behind it too.
-pub fn open_slice<'a>(
-    alloc: Global,
-    sets: &Sets,
-    header: u8,
-    payload: &'a [u8],
-    to: Layer,
-) -> Result<(Header, SliceBits<'a>), RewriteFault>
-    ensures ok { IfOk result (λ opened. IsOpened to sets.now header (bits_of payload.now) opened.0 opened.1.taken opened.1.left) }
-    ensures err { IfErr result (IsNotOpened to sets.now header (bits_of payload.now)) }
-{
-    let mut bits = SliceBits::new(payload);
-    match read_header(alloc, sets, header, &mut bits) {
-        Ok(h) => {
-            if is_unbuilt(sets, &h, to) {
-                Err(RewriteFault::Outside(Why::Unbuilt))
-            } else {
-                Ok((h, bits))
-            }
-        }
-        Err(fault) => Err(fault_of_header(fault)),
+/// A slice whose header was read: the header, the sets that it names, what its macroblocks rest on beside one another,
+/// and the bits behind the header.
+#[derive(Drop)]
+pub struct OpenSlice<'a> {
+    pub(crate) header: Header,
+    pub(crate) active: ActiveSets<'a>,
+    pub(crate) shape: SliceShape,
+    pub(crate) bits: SliceBits<'a>,
+}
+
+impl OpenSlice<'_> {
+    /// pic_parameter_set_id, the number of the picture parameter set that the slice names.
+    pub fn pps_number(&self) -> u8
+        requires { self.now.header.pic_parameter_set_id ≤ 255 }
+        ensures { result ≡ self.now.header.pic_parameter_set_id }
+    {
+        self.header.pic_parameter_set_id as u8
     }
 }
 
-/// Whether a slice with this header can't be recoded to a layer yet.
-fn is_unbuilt(sets: &Sets, h: &Header, to: Layer) -> bool
-    requires { IsUnder sets.now h.now }
-    ensures { (active : Active) → Names sets.now h.now.pic_parameter_set_id active → result ≡ is_unbuilt to active h.now }
+/// Reads the header of the slice unit with this header byte and this payload, under the sets that stand, so that it can
+/// be written for the wanted layer.
+///
+/// Outside: the payload has no reading, whatever stands behind its header. Stop never comes.
+pub fn open_slice<'a>(
+    alloc: Global,
+    sets: &'a Sets,
+    header: u8,
+    payload: &'a [u8],
+    to: Layer,
+) -> Result<OpenSlice<'a>, RewriteFault>
+    ensures ok { IfOk result (λ opened. IsOpened to sets.now header (bits_of payload.now) opened) }
+    ensures err { IfErr result (IsNotOpened to sets.now header (bits_of payload.now)) }
 {
-    let cabac = matches!(layer_of(sets, h), Layer::Cabac) || matches!(to, Layer::Cabac);
-    shape(sets, h).mbaff || cabac
+    let mut bits = SliceBits::new(payload);
+    let (header, active) = read_header_with_sets(alloc, sets, header, &mut bits)?;
+    let shape = shape_under(&active, &header);
+    if is_unbuilt(&active, &shape, to) {
+        return Err(RewriteFault::Outside(Why::Unbuilt));
+    }
+    Ok(OpenSlice {
+        header,
+        active,
+        shape,
+        bits,
+    })
+}
+
+/// Whether a slice of this shape can't be recoded to a layer yet.
+fn is_unbuilt(active: &ActiveSets<'_>, shape: &SliceShape, to: Layer) -> bool
+    ensures { result ≡ (shape.now.mbaff || (active.now.pps.now.entropy_coding_mode_flag || mode_flag_of to)) }
+{
+    shape.mbaff || active.pps.entropy_coding_mode_flag || matches!(to, Layer::Cabac)
 }

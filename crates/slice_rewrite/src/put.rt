@@ -13,28 +13,23 @@ use exp_golomb::BitSink;
 use h264_types::validity::is_p_8x8ref0;
 use h264_types::{Case, Mb};
 use pattern_fix::normalise;
+use std::alloc::AllocError as Memory;
 
-/// Why a macroblock wasn't put.
-#[derive(Clone, Copy, Debug, PartialEq, Eq)]
-pub enum WriteFault {
-    /// It can't be written.
-    Stop(Case),
-    /// Memory ran out.
-    Memory,
-}
-
-/// Puts a macroblock in its written form, which it is left in.
-pub fn put_written<K: BitSink>(writer: &mut CavlcWriter<K>, mb: &mut Mb) -> Result<(), WriteFault>
+/// Puts a macroblock in its written form, which it is left in. Some: why it can't be written; it wasn't put.
+pub fn put_written<K: BitSink>(
+    writer: &mut CavlcWriter<K>,
+    mb: &mut Mb,
+) -> Result<Option<Case>, Memory>
     requires { (IsEmptied mb.old → ⊥) → MayPut K.bits writer.old (written_mb Cavlc mb.old) }
     ensures { (shape : SliceShape) (before : List Bool) (done : List Mb) → WritesFor K.bits writer.old shape before done → PutsWritten K.bits writer.new shape before done mb.old result }
 {
     let Ok(()) = normalise(mb) else {
-        return Err(WriteFault::Stop(Case::Empty));
+        return Ok(Some(Case::Empty));
     };
     mb.ref0 = is_p_8x8ref0(mb);
     match writer.put(mb) {
-        Ok(()) => Ok(()),
-        Err(PutFault::Beyond) => Err(WriteFault::Stop(Case::Level)),
-        Err(PutFault::Memory) => Err(WriteFault::Memory),
+        Ok(()) => Ok(None),
+        Err(PutFault::Beyond) => Ok(Some(Case::Level)),
+        Err(PutFault::Memory) => Err(Memory),
     }
 }

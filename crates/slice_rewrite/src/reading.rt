@@ -4,14 +4,13 @@ ghost use Rattle.bit_texts.specs.Bits.{bits_of};
 ghost use Rattle.cavlc_syntax.specs.SliceText.{IsBuiltShape, HasText, slice_text};
 ghost use Rattle.slice_rewrite.specs.SliceForms.{IsSliceRead, IsNotOpened, IsNoDataRead};
 
-use crate::fault::{RewriteFault, fault_of_data};
+use crate::fault::RewriteFault;
 use crate::opening::open_slice;
 use crate::slice::Slice;
 use cavlc_syntax::CavlcReader;
 use exp_golomb::BitSource;
 use h264_types::{Layer, Mb, MbKind, SliceShape};
 use param_sets::Sets;
-use slice_header::shape;
 use std::alloc::Global;
 
 /// Reads the payload of a slice unit with this header byte under the sets that stand. Outside: the payload has no reading.
@@ -25,14 +24,12 @@ pub fn read_slice(
     ensures ok { IfOk result (λ slice. IsSliceRead sets.now header (bits_of payload.now) slice.header slice.mbs.items) }
     ensures err { IfErr result (IsNotOpened Layer.Cavlc sets.now header (bits_of payload.now)) }
 {
-    let (h, bits) = match open_slice(alloc, sets, header, payload, Layer::Cavlc) {
-        Ok(opened) => opened,
-        Err(fault) => return Err(fault),
-    };
-    match read_data(alloc, shape(sets, &h), bits) {
-        Ok(mbs) => Ok(Slice { header: h, mbs }),
-        Err(fault) => Err(fault),
-    }
+    let opened = open_slice(alloc, sets, header, payload, Layer::Cavlc)?;
+    let mbs = read_data(alloc, opened.shape, opened.bits)?;
+    Ok(Slice {
+        header: opened.header,
+        mbs,
+    })
 }
 
 // Reads the slice data that are left in `bits`.
@@ -45,20 +42,15 @@ fn read_data<B: BitSource>(
     ensures ok { IfOk result (λ mbs. HasText shape mbs.items × (B.left bits ≡ slice_text shape (length (B.taken bits)) mbs.items)) }
     ensures err { IfErr result (IsNoDataRead shape (length (B.taken bits)) (B.left bits)) }
 {
-    let Ok(mut reader) = CavlcReader::start(alloc, shape, bits) else {
-        return Err(RewriteFault::Memory);
-    };
+    let mut reader = CavlcReader::start(alloc, shape, bits)?;
     let mut mbs = Vec::new(alloc);
     let mut mb = Mb::without_elements(MbKind::Skip);
     for _ in 0..shape.width * shape.height + 1 {
-        match reader.next_into(&mut mb) {
-            Ok(true) => {}
-            Ok(false) => return Ok(mbs),
-            Err(fault) => return Err(fault_of_data(fault)),
+        let more = reader.next_into(&mut mb)?;
+        if !more {
+            return Ok(mbs);
         }
-        let Ok(()) = mbs.push(mb) else {
-            return Err(RewriteFault::Memory);
-        };
+        mbs.push(mb)?;
     }
     unreachable!()
 }

@@ -1,18 +1,19 @@
 // A slice, read and written macroblock by macroblock.
-ghost use Rattle.std.specs.Prelude.{◌≡◌, length, IfOk, IfErr};
+ghost use Rattle.std.specs.Prelude.{◌≡◌, ℕ, List, Bool, length, IfOk, IfErr};
 ghost use Rattle.bit_texts.specs.Bits.{bits_of};
 ghost use Rattle.cavlc_syntax.specs.SliceText.{IsBuiltShape};
-ghost use Rattle.slice_rewrite.specs.SliceForms.{Ends, IsSliceForm, IsSliceRefusal, IsCopy, IsNoCopy};
+ghost use Rattle.param_sets.specs.Sets.{SetMaps};
+ghost use Rattle.slice_rewrite.specs.SliceForms.{Ends, IsOpened, IsSliceForm, IsSliceRefusal, IsCopy, IsNoCopy};
 
-use crate::fault::{RewriteFault, fault_of_data};
-use crate::opening::open_slice;
-use crate::put::{WriteFault, put_written};
+use crate::fault::RewriteFault;
+use crate::opening::{OpenSlice, open_slice};
+use crate::put::put_written;
 use crate::slice::Written;
 use cavlc_syntax::{CavlcReader, CavlcWriter};
 use exp_golomb::{BitSink, BitSource, BitVec};
 use h264_types::{Case, Layer, Mb, MbKind, SliceShape};
 use param_sets::Sets;
-use slice_header::{shape, write_header};
+use slice_header::write_header_under;
 use std::alloc::Global;
 
 /// Reads the payload of a slice unit with this header byte under the sets that stand, and writes it again for the wanted
@@ -32,20 +33,24 @@ pub fn recode_slice(
     ensures ok { IfOk result (λ form. IsSliceForm to number sets.now header (bits_of payload.now) form.payload.items form.macroblocks) }
     ensures err { IfErr result (IsSliceRefusal to sets.now header (bits_of payload.now)) }
 {
-    let (h, bits) = match open_slice(alloc, sets, header, payload, to) {
-        Ok(opened) => opened,
-        Err(fault) => return Err(fault),
-    };
-    let mut out = BitVec::new(alloc);
-    let Ok(()) = write_header(&mut out, sets, &h, to, number, 0) else {
-        return Err(RewriteFault::Memory);
-    };
-    match copy_data(alloc, shape(sets, &h), bits, out) {
-        Ok((out, macroblocks)) => Ok(Written {
+    open_slice(alloc, sets, header, payload, to)?.recode(alloc, to, number)
+}
+
+impl OpenSlice<'_> {
+    /// Reads the slice and writes it again for the layer that it was opened for, where its picture parameter set has the
+    /// number `number`, as `recode_slice` does.
+    pub fn recode(self, alloc: Global, to: Layer, number: u8) -> Result<Written, RewriteFault>
+        requires { (sets : SetMaps) × (header : ℕ) × (bits : List Bool) × IsOpened to sets header bits self }
+        ensures ok { (sets : SetMaps) (header : ℕ) (bits : List Bool) → IsOpened to sets header bits self.entry → IfOk result (λ form. IsSliceForm to number sets header bits form.payload.items form.macroblocks) }
+        ensures err { (sets : SetMaps) (header : ℕ) (bits : List Bool) → IsOpened to sets header bits self.entry → IfErr result (IsSliceRefusal to sets header bits) }
+    {
+        let mut out = BitVec::new(alloc);
+        write_header_under(&mut out, &self.active, &self.header, to, number, 0)?;
+        let (out, macroblocks) = copy_data(alloc, self.shape, self.bits, out)?;
+        Ok(Written {
             payload: out.into_bytes(),
             macroblocks,
-        }),
-        Err(fault) => Err(fault),
+        })
     }
 }
 
@@ -61,25 +66,18 @@ fn copy_data<B: BitSource, K: BitSink>(
     ensures ok { IfOk result (λ copy. IsCopy shape (length (B.taken bits)) (B.left bits) (K.bits out) (K.bits copy.0) copy.1) }
     ensures err { IfErr result (IsNoCopy shape (length (B.taken bits)) (B.left bits)) }
 {
-    let Ok(mut reader) = CavlcReader::start(alloc, shape, bits) else {
-        return Err(RewriteFault::Memory);
-    };
-    let Ok(mut writer) = CavlcWriter::start(alloc, shape, out) else {
-        return Err(RewriteFault::Memory);
-    };
+    let mut reader = CavlcReader::start(alloc, shape, bits)?;
+    let mut writer = CavlcWriter::start(alloc, shape, out)?;
     let mut mb = Mb::without_elements(MbKind::Skip);
     let mut stop = None;
     for count in 0..shape.width * shape.height + 1 {
-        match reader.next_into(&mut mb) {
-            Ok(true) => {}
-            Ok(false) => return end_data(writer, stop, count),
-            Err(fault) => return Err(fault_of_data(fault)),
+        let more = reader.next_into(&mut mb)?;
+        if !more {
+            return end_data(writer, stop, count);
         }
         if stop.is_none() {
-            match put_written(&mut writer, &mut mb) {
-                Ok(()) => {}
-                Err(WriteFault::Stop(case)) => stop = Some((case, count)),
-                Err(WriteFault::Memory) => return Err(RewriteFault::Memory),
+            if let Some(case) = put_written(&mut writer, &mut mb)? {
+                stop = Some((case, count));
             }
         }
     }
@@ -96,9 +94,9 @@ fn end_data<K: BitSink>(
 {
     match stop {
         Some((case, number)) => Err(RewriteFault::Stop(case, number)),
-        None => match writer.finish() {
-            Ok(out) => Ok((out, count)),
-            Err(_) => Err(RewriteFault::Memory),
-        },
+        None => {
+            let out = writer.finish()?;
+            Ok((out, count))
+        }
     }
 }

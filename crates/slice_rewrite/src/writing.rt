@@ -6,13 +6,13 @@ ghost use Rattle.header_parts.specs.ActiveSets.{Active};
 ghost use Rattle.slice_rewrite.specs.SliceForms.{coded, IsUnderSets, IsSliceWritten, IsNotWritten, IsDataWritten, IsNoDataWritten};
 
 use crate::fault::RewriteFault;
-use crate::put::{WriteFault, put_written};
+use crate::put::put_written;
 use crate::slice::{How, Slice};
 use cavlc_syntax::CavlcWriter;
 use exp_golomb::{BitSink, BitVec};
 use h264_types::{Mb, SliceShape};
 use param_sets::Sets;
-use slice_header::{shape, write_header};
+use slice_header::{sets_of, shape_under, write_header_under};
 use std::alloc::Global;
 
 /// The payload that is written for a slice under the sets that stand. Stop: the least macroblock that can't be written.
@@ -31,14 +31,19 @@ pub fn write_slice(
     ensures err { IfErr result (λ fault. (active : Active) → IsUnderSets sets.now active slice.now.header slice.now.mbs.items →
         IsNotWritten how.to (coded active slice.now.header slice.now.mbs.items) fault) }
 {
+    let active = sets_of(sets, &slice.header);
     let mut out = BitVec::new(alloc);
-    let Ok(()) = write_header(&mut out, sets, &slice.header, how.to, how.number, how.idc) else {
-        return Err(RewriteFault::Memory);
-    };
-    match write_data(alloc, shape(sets, &slice.header), &slice.mbs, out) {
-        Ok(out) => Ok(out.into_bytes()),
-        Err(fault) => Err(fault),
-    }
+    write_header_under(
+        &mut out,
+        &active,
+        &slice.header,
+        how.to,
+        how.number,
+        how.idc,
+    )?;
+    let shape = shape_under(&active, &slice.header);
+    let out = write_data(alloc, shape, &slice.mbs, out)?;
+    Ok(out.into_bytes())
 }
 
 // Writes slice data behind what was put into `out`.
@@ -53,19 +58,13 @@ fn write_data<K: BitSink>(
     ensures ok { IfOk result (λ written. IsDataWritten shape mbs.now (K.bits out) (K.bits written)) }
     ensures err { IfErr result (IsNoDataWritten shape mbs.now) }
 {
-    let Ok(mut writer) = CavlcWriter::start(alloc, shape, out) else {
-        return Err(RewriteFault::Memory);
-    };
+    let mut writer = CavlcWriter::start(alloc, shape, out)?;
     for k in 0..mbs.len() {
         let mut mb = mbs[k];
-        match put_written(&mut writer, &mut mb) {
-            Ok(()) => {}
-            Err(WriteFault::Stop(case)) => return Err(RewriteFault::Stop(case, k as u32)),
-            Err(WriteFault::Memory) => return Err(RewriteFault::Memory),
+        if let Some(case) = put_written(&mut writer, &mut mb)? {
+            return Err(RewriteFault::Stop(case, k as u32));
         }
     }
-    match writer.finish() {
-        Ok(out) => Ok(out),
-        Err(_) => Err(RewriteFault::Memory),
-    }
+    let out = writer.finish()?;
+    Ok(out)
 }

@@ -7,7 +7,7 @@ use Rattle.h264_types.specs.declared.fault.Stopped.TheVariants.{Stop, Outside, M
 use Rattle.h264_types.specs.Units.{seen, seen_whole}
 use Rattle.h264_types.proofs.Stays.{seen-stays}
 use Rattle.annexb_units.specs.declared.splitter.Splitter.{Splitter}
-use Rattle.annexb_units.specs.Splitter.{Feeds, ShowsNone, Shows, EndShowsNone, EndShows}
+use Rattle.annexb_units.specs.Splitter.{Feeds, ShowsNone, Shows}
 use Rattle.slice_rewrite.specs.declared.plan.Plan.{Plan}
 use Rattle.stream_recoder.specs.declared.recoder.Recoder.{Recoder}
 use Rattle.slice_rewrite.specs.Items.{Item}
@@ -90,16 +90,6 @@ pub stopped_before : (r : Recoder) (piece : List ℕ) (stopped : Stopped) → r.
 stopped_before r piece (Outside n why) e = λ fed drained h. let k = h.on in absurd (no_both r (Outside n why) e k)
 stopped_before r piece Memory e = λ fed drained h. let k = h.on in absurd (no_both r Memory e k)
 stopped_before r piece (Stop case place) e = λ fed drained h. let k = h.on in absurd (no_both r (Stop case place) e k)
-
--- ## The end of the input, as three zero bytes
-
-pub end_shows_none : (s : Splitter) → EndShowsNone s → ShowsNone s (0 ∷ 0 ∷ 0 ∷ [])
-unfolding seen_whole
-end_shows_none s h = h
-
-pub end_shows : (s : Splitter) (n : ℕ) (why : Why) → EndShows s n why → Shows s (0 ∷ 0 ∷ 0 ∷ []) n why
-unfolding seen_whole
-end_shows s n why h = h
 
 -- two facts of an `Ok`
 pub on_ok_two : {T E : Type 0} → (P Q R : Type 0) (r : Result T E) → (P → Q → R) → OnOk r P → OnOk r Q → OnOk r R

@@ -30,7 +30,8 @@ use Rattle.slice_rewrite.proofs.Slices.{slice-nal}
 use Rattle.stream_recoder.specs.Written.{Written, written_of}
 use Rattle.slice_rewrite.specs.declared.fault.RewriteFault.{RewriteFault}
 use Rattle.slice_rewrite.specs.declared.fault.RewriteFault.TheVariants as slices
-use Rattle.stream_recoder.specs.Forms.{IsForm, IsRefusal, fault_of_escape, fault_of_set, fault_of_slice}
+use Rattle.slice_rewrite.specs.Faults.{fault_of_escape}
+use Rattle.stream_recoder.specs.Forms.{IsForm, IsRefusal, set_fault}
 use Rattle.slice_rewrite.specs.SliceForms.{IsSliceForm, IsSliceRefusal}
 
 abbrev pub written_with : List ℕ → Event → Written
@@ -86,13 +87,13 @@ escape_refused_slice o sets unit fault kind h = escape_refused o sets unit IsSli
 
 -- ## Sets
 
-pub sps_refused : (o : Plan) (sets : SetMaps) (unit payload : List ℕ) (fault : SetFault) → kind_of unit ≡ IsSps → IsEscape payload (drop 1 unit) → ReadsSps (Err fault) (bits_of payload) → IsRefusal o sets unit (fault_of_set BadSps fault)
+pub sps_refused : (o : Plan) (sets : SetMaps) (unit payload : List ℕ) (fault : SetFault) → kind_of unit ≡ IsSps → IsEscape payload (drop 1 unit) → ReadsSps (Err fault) (bits_of payload) → IsRefusal o sets unit (set_fault BadSps fault)
 sps_refused o sets unit payload NoReading kind is r = refuses_as o.to sets unit IsSps BadSps kind (inr (payload, is, inl (refl, r)))
 sps_refused o sets unit payload Profile kind is r = refuses_as o.to sets unit IsSps BadProfile kind (inr (payload, is, inr (OutsideProfile, refl, r)))
 sps_refused o sets unit payload Limit kind is r = refuses_as o.to sets unit IsSps BadLimit kind (inr (payload, is, inr (AboveLimit, refl, r)))
 sps_refused o sets unit payload Memory kind is r = tt
 
-pub pps_refused : (o : Plan) (sets : SetMaps) (unit payload : List ℕ) (fault : SetFault) → kind_of unit ≡ IsPps → IsEscape payload (drop 1 unit) → ReadsPps (Err fault) (bits_of payload) → IsRefusal o sets unit (fault_of_set BadPps fault)
+pub pps_refused : (o : Plan) (sets : SetMaps) (unit payload : List ℕ) (fault : SetFault) → kind_of unit ≡ IsPps → IsEscape payload (drop 1 unit) → ReadsPps (Err fault) (bits_of payload) → IsRefusal o sets unit (set_fault BadPps fault)
 pps_refused o sets unit payload NoReading kind is r = refuses_as o.to sets unit IsPps BadPps kind (inr (payload, is, inl (refl, r)))
 pps_refused o sets unit payload Profile kind is r = refuses_as o.to sets unit IsPps BadProfile kind (inr (payload, is, inr (OutsideProfile, refl, r)))
 pps_refused o sets unit payload Limit kind is r = absurd r
@@ -125,7 +126,7 @@ pps_written o sets after unit payload form pps whole kind is text bytes stand = 
 
 -- ## Slices
 
-pub slice_refused : (o : Plan) (sets : SetMaps) (unit payload : List ℕ) (fault : RewriteFault) → kind_of unit ≡ IsSlice → IsEscape payload (drop 1 unit) → IsSliceRefusal o.to sets (header_of unit) (bits_of payload) fault → IsRefusal o sets unit (fault_of_slice fault)
+pub slice_refused : (o : Plan) (sets : SetMaps) (unit payload : List ℕ) (fault : RewriteFault) → kind_of unit ≡ IsSlice → IsEscape payload (drop 1 unit) → IsSliceRefusal o.to sets (header_of unit) (bits_of payload) fault → IsRefusal o sets unit fault
 slice_refused o sets unit payload (slices.Outside why) kind is r = refuses_as o.to sets unit IsSlice why kind (inr (payload, is, r))
 slice_refused o sets unit payload (slices.Stop case k) kind is r = (TheSlice r.0, (payload, (kind, is), r.1), λ before. r.2)
 slice_refused o sets unit payload slices.Memory kind is r = tt

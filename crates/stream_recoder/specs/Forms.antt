@@ -1,17 +1,13 @@
 -- What is written for a unit that is read under the sets that stand.
 use Rattle.std.specs.Prelude.{◌≡◌, ℕ, List, Some, None}
 use Rattle.h264_types.specs.declared.fault.Why.{Why}
-use Rattle.h264_types.specs.declared.fault.Why.TheVariants.{Escape, Profile as BadProfile, Limit as BadLimit}
-use Rattle.annexb_units.specs.declared.unescaping.EscapeFault.{EscapeFault}
-use Rattle.annexb_units.specs.declared.unescaping.EscapeFault.TheVariants.{BadEscape, Memory as NoMemory}
+use Rattle.h264_types.specs.declared.fault.Why.TheVariants.{Profile as BadProfile, Limit as BadLimit}
 use Rattle.param_sets.specs.Sets.{SetMaps}
 use Rattle.param_sets.specs.declared.fault.SetFault.{SetFault}
 use Rattle.param_sets.specs.declared.fault.SetFault.TheVariants.{NoReading, Profile, Limit, Memory as NoRoom}
 use Rattle.slice_rewrite.specs.declared.fault.RewriteFault.{RewriteFault}
-use Rattle.slice_rewrite.specs.declared.fault.RewriteFault.TheVariants as slices
+use Rattle.slice_rewrite.specs.declared.fault.RewriteFault.TheVariants.{Outside, Stop, Memory}
 use Rattle.slice_rewrite.specs.declared.plan.Plan.{Plan}
-use Rattle.stream_recoder.specs.declared.fault.UnitFault.{UnitFault}
-use Rattle.stream_recoder.specs.declared.fault.UnitFault.TheVariants.{Outside, Stop, Memory}
 use Rattle.slice_rewrite.specs.Items.{Item, put, IsItem}
 use Rattle.slice_rewrite.specs.Verdict.{Refuses, stop_of}
 use Rattle.slice_rewrite.specs.Written.{form_of, macroblocks_of}
@@ -26,22 +22,14 @@ pub record IsForm (o : Plan) (sets after : SetMaps) (unit form : List ℕ) (macr
   pub bytes : form ≡ form_of o unit item
 
 -- the unit has no item, or one that can't be written, whatever stands before it, or there is no memory
-abbrev pub IsRefusal : Plan → SetMaps → List ℕ → UnitFault → Type 0
+abbrev pub IsRefusal : Plan → SetMaps → List ℕ → RewriteFault → Type 0
 IsRefusal o sets unit (Outside why) = Refuses o.to sets unit why
 IsRefusal o sets unit (Stop case k) = (item : Item) × IsItem o.to sets unit item × ((before : List Item) → stop_of o before item ≡ Some (case, k))
 IsRefusal o sets unit Memory = Unit {0}
 
-abbrev pub fault_of_escape : EscapeFault → UnitFault
-fault_of_escape BadEscape = Outside Escape
-fault_of_escape NoMemory = Memory
-
-abbrev pub fault_of_set : Why → SetFault → UnitFault
-fault_of_set none NoReading = Outside none
-fault_of_set none Profile = Outside BadProfile
-fault_of_set none Limit = Outside BadLimit
-fault_of_set none NoRoom = Memory
-
-abbrev pub fault_of_slice : RewriteFault → UnitFault
-fault_of_slice (slices.Outside why) = Outside why
-fault_of_slice (slices.Stop case k) = Stop case k
-fault_of_slice slices.Memory = Memory
+-- why a parameter set isn't read; where its bits have no reading this is the name of that
+abbrev pub set_fault : Why → SetFault → RewriteFault
+set_fault unread NoReading = Outside unread
+set_fault unread Profile = Outside BadProfile
+set_fault unread Limit = Outside BadLimit
+set_fault unread NoRoom = Memory

@@ -8,8 +8,8 @@ use Rattle.h264_types.specs.Units.{Seen, seen}
 use Rattle.annexb_units.specs.Splitter.{StandsFor}
 use Rattle.slice_rewrite.specs.declared.plan.Plan.{Plan}
 use Rattle.stream_recoder.specs.declared.recoder.Recoder.{Recoder}
-use Rattle.stream_recoder.specs.declared.fault.UnitFault.{UnitFault}
-use Rattle.stream_recoder.specs.declared.fault.UnitFault.TheVariants.{Outside as OutsideFault, Stop as StopFault, Memory as NoMemory}
+use Rattle.slice_rewrite.specs.declared.fault.RewriteFault.{RewriteFault}
+use Rattle.slice_rewrite.specs.declared.fault.RewriteFault.TheVariants.{Outside as OutsideFault, Stop as StopFault, Memory as NoMemory}
 use Rattle.slice_rewrite.specs.Items.{Item, put, behind, sets_behind, IsItem}
 use Rattle.slice_rewrite.specs.Verdict.{unit_number, Refuses, stop_of, Judges, Recodes}
 use Rattle.stream_recoder.specs.Written.{Written, written_of, all_written}
@@ -95,7 +95,7 @@ pub record Adds (old new : Recoder) (unit : List ℕ) : Type 0 where
   pub plan : new.plan ≡ old.plan
 
 -- how a fault of the unit of this number stops
-abbrev pub stopped_at : ℕ → UnitFault → Stopped
+abbrev pub stopped_at : ℕ → RewriteFault → Stopped
 stopped_at n (OutsideFault why) = Outside n why
 stopped_at n (StopFault case k) = Stop case record { unit = n; mb = k }
 stopped_at n NoMemory = Memory

@@ -3,7 +3,6 @@
 //! specs/, over whole lists; here stand what a recoder holds of them, and the events of its units.
 #![tactic(auto)]
 
-mod fault;
 pub mod laws;
 mod recoder;
 mod unit_form;

@@ -3,12 +3,11 @@ ghost use Rattle.std.specs.Prelude.{◌≡◌, ◌+◌, ◌∷◌, ◌++◌, [],
 ghost use Rattle.slice_rewrite.specs.Items.{unit_type};
 ghost use Rattle.stream_recoder.specs.Written.{Written};
 
-use crate::fault::UnitFault;
 use crate::unit_form::{UnitForm, unit_form};
 use annexb_units::{SplitFault, Splitter};
 use h264_types::{Place, Stopped};
 use param_sets::Sets;
-use slice_rewrite::{Plan, unit_type};
+use slice_rewrite::{Plan, RewriteFault, unit_type};
 use std::alloc::{AllocError as Memory, Global};
 use std::collections::VecDeque;
 use stream_taps::Event;
@@ -71,7 +70,7 @@ impl Recoder {
         }
     }
 
-    /// Takes the end of the stream, which acts as three more zero bytes would: the last unit ends there.
+    /// Takes the end of the stream, which is three more zero bytes: the last unit ends there.
     pub fn finish(&mut self) -> Result<(), Stopped>
         ensures ok { OnOk result (RecodesMore self.old self.new (0 ∷ 0 ∷ 0 ∷ [])) }
         ensures err { IfErr result (RecodingStops self.old self.new (0 ∷ 0 ∷ 0 ∷ [])) }
@@ -79,17 +78,7 @@ impl Recoder {
         ensures stops { IfErr result (IsStopped self.new) }
         ensures plan { plan_of self.new ≡ plan_of self.old }
     {
-        if let Some(stopped) = self.stopped {
-            return Err(stopped);
-        }
-        match self.splitter.end() {
-            Ok(()) => self.take_ended(),
-            Err(SplitFault::Bad { unit, why }) => {
-                self.take_ended()?;
-                Err(self.stop(Stopped::Outside { unit, why }))
-            }
-            Err(SplitFault::Memory) => Err(self.stop(Stopped::Memory)),
-        }
+        self.feed(&[0, 0, 0])
     }
 
     /// Gives the bytes that are written for the next unit, start codes included, with the event of it. None comes where
@@ -140,18 +129,18 @@ impl Recoder {
     }
 
     // Stops at the next unit.
-    fn refuse(&mut self, fault: UnitFault) -> Stopped
+    fn refuse(&mut self, fault: RewriteFault) -> Stopped
         ensures value { result ≡ stopped_at self.old.units fault }
         ensures after { self.new ≡ record self.old { stopped = Some (stopped_at self.old.units fault) } }
     {
         let unit = self.units;
         match fault {
-            UnitFault::Outside(why) => self.stop(Stopped::Outside { unit, why }),
-            UnitFault::Stop(case, mb) => self.stop(Stopped::Stop {
+            RewriteFault::Outside(why) => self.stop(Stopped::Outside { unit, why }),
+            RewriteFault::Stop(case, mb) => self.stop(Stopped::Stop {
                 case,
                 place: Place { unit, mb },
             }),
-            UnitFault::Memory => self.stop(Stopped::Memory),
+            RewriteFault::Memory => self.stop(Stopped::Memory),
         }
     }
 

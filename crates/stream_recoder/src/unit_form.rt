@@ -6,13 +6,12 @@ ghost use Rattle.param_sets.specs.PpsCodes.{IsPps};
 ghost use Rattle.param_sets.specs.SpsCodes.{IsSps, without_constraints};
 ghost use Rattle.slice_rewrite.specs.Items.{kind_of};
 ghost use Rattle.slice_rewrite.specs.Written.{with_start_code, sps_unit, pps_unit};
-ghost use Rattle.stream_recoder.specs.Forms.{IsForm, IsRefusal};
+ghost use Rattle.stream_recoder.specs.Forms.{IsForm, IsRefusal, set_fault};
 
-use crate::fault::{UnitFault, fault_of_escape, fault_of_set, fault_of_slice};
 use annexb_units::{has_payload, unescape, write_unit};
 use h264_types::{Layer, Why};
-use param_sets::{Pps, Sets, Sps, read_pps, read_sps, write_pps, write_sps};
-use slice_rewrite::{Plan, UnitKind, named_set, recode_slice, unit_kind};
+use param_sets::{Pps, SetFault, Sets, Sps, read_pps, read_sps, write_pps, write_sps};
+use slice_rewrite::{Plan, RewriteFault, UnitKind, open_slice, unit_kind};
 use std::alloc::{AllocError as Memory, Global};
 
 /// A unit in its written form.
@@ -30,40 +29,38 @@ pub fn unit_form(
     plan: Plan,
     sets: &mut Sets,
     unit: &[u8],
-) -> Result<UnitForm, UnitFault>
+) -> Result<UnitForm, RewriteFault>
     requires { plan.range ≡ None }
     ensures ok { IfOk result (λ form. IsForm plan sets.old sets.new unit.now form.bytes.items form.macroblocks) }
     ensures err { IfErr result (IsRefusal plan sets.old unit.now) }
 {
     if unit.is_empty() {
-        return Err(UnitFault::Outside(Why::Kind));
+        return Err(RewriteFault::Outside(Why::Kind));
     }
     match unit_kind(unit) {
         UnitKind::Carried => carried_form(alloc, plan, sets, unit),
         UnitKind::Sps => sps_form(alloc, plan, sets, unit),
         UnitKind::Pps => pps_form(alloc, plan, sets, unit),
         UnitKind::Slice => coded_form(alloc, plan, sets, unit),
-        UnitKind::Refused => Err(UnitFault::Outside(Why::Kind)),
+        UnitKind::Refused => Err(RewriteFault::Outside(Why::Kind)),
     }
 }
 
 // A carried unit is written as it was read.
-fn carried_form(alloc: Global, plan: Plan, sets: &Sets, unit: &[u8]) -> Result<UnitForm, UnitFault>
+fn carried_form(alloc: Global, plan: Plan, sets: &Sets, unit: &[u8]) -> Result<UnitForm, RewriteFault>
     requires kind { kind_of unit.now ≡ UnitKind.Carried }
     requires some { 1 ≤ length unit.now }
     ensures ok { IfOk result (λ form. IsForm plan sets.now sets.now unit.now form.bytes.items form.macroblocks) }
     ensures err { IfErr result (IsRefusal plan sets.now unit.now) }
 {
     if !has_payload(unit) {
-        return Err(UnitFault::Outside(Why::Escape));
+        return Err(RewriteFault::Outside(Why::Escape));
     }
-    match with_start_code(alloc, unit) {
-        Ok(bytes) => Ok(UnitForm {
-            bytes,
-            macroblocks: 0,
-        }),
-        Err(_) => Err(UnitFault::Memory),
-    }
+    let bytes = with_start_code(alloc, unit)?;
+    Ok(UnitForm {
+        bytes,
+        macroblocks: 0,
+    })
 }
 
 // A unit behind a start code of four bytes.
@@ -77,26 +74,19 @@ fn with_start_code(alloc: Global, unit: &[u8]) -> Result<Vec<u8>, Memory>
 }
 
 // A sequence parameter set is written without the constraint flags that promise streams without CABAC.
-fn sps_form(alloc: Global, plan: Plan, sets: &mut Sets, unit: &[u8]) -> Result<UnitForm, UnitFault>
+fn sps_form(alloc: Global, plan: Plan, sets: &mut Sets, unit: &[u8]) -> Result<UnitForm, RewriteFault>
     requires kind { kind_of unit.now ≡ UnitKind.Sps }
     requires some { 1 ≤ length unit.now }
     ensures ok { IfOk result (λ form. IsForm plan sets.old sets.new unit.now form.bytes.items form.macroblocks) }
     ensures err { IfErr result (IsRefusal plan sets.old unit.now) }
 {
-    let payload = match unescape(alloc, unit) {
-        Ok(payload) => payload,
-        Err(fault) => return Err(fault_of_escape(fault)),
-    };
+    let payload = unescape(alloc, unit)?;
     let sps = match read_sps(alloc, payload.as_slice()) {
         Ok(sps) => sps,
-        Err(fault) => return Err(fault_of_set(Why::Sps, fault)),
+        Err(fault) => return Err(set_fault(Why::Sps, fault)),
     };
-    let Ok((bytes, sps)) = sps_unit(alloc, unit[0], sps) else {
-        return Err(UnitFault::Memory);
-    };
-    let Ok(()) = sets.put_sps(sps) else {
-        return Err(UnitFault::Memory);
-    };
+    let (bytes, sps) = sps_unit(alloc, unit[0], sps)?;
+    sets.put_sps(sps)?;
     Ok(UnitForm {
         bytes,
         macroblocks: 0,
@@ -104,27 +94,20 @@ fn sps_form(alloc: Global, plan: Plan, sets: &mut Sets, unit: &[u8]) -> Result<U
 }
 
 // A picture parameter set is written in the wanted layer.
-fn pps_form(alloc: Global, plan: Plan, sets: &mut Sets, unit: &[u8]) -> Result<UnitForm, UnitFault>
+fn pps_form(alloc: Global, plan: Plan, sets: &mut Sets, unit: &[u8]) -> Result<UnitForm, RewriteFault>
     requires kind { kind_of unit.now ≡ UnitKind.Pps }
     requires some { 1 ≤ length unit.now }
     requires whole { plan.range ≡ None }
     ensures ok { IfOk result (λ form. IsForm plan sets.old sets.new unit.now form.bytes.items form.macroblocks) }
     ensures err { IfErr result (IsRefusal plan sets.old unit.now) }
 {
-    let payload = match unescape(alloc, unit) {
-        Ok(payload) => payload,
-        Err(fault) => return Err(fault_of_escape(fault)),
-    };
+    let payload = unescape(alloc, unit)?;
     let pps = match read_pps(alloc, payload.as_slice()) {
         Ok(pps) => pps,
-        Err(fault) => return Err(fault_of_set(Why::Pps, fault)),
+        Err(fault) => return Err(set_fault(Why::Pps, fault)),
     };
-    let Ok(bytes) = pps_unit(alloc, unit[0], plan.to, &pps) else {
-        return Err(UnitFault::Memory);
-    };
-    let Ok(()) = sets.put_pps(pps) else {
-        return Err(UnitFault::Memory);
-    };
+    let bytes = pps_unit(alloc, unit[0], plan.to, &pps)?;
+    sets.put_pps(pps)?;
     Ok(UnitForm {
         bytes,
         macroblocks: 0,
@@ -132,27 +115,32 @@ fn pps_form(alloc: Global, plan: Plan, sets: &mut Sets, unit: &[u8]) -> Result<U
 }
 
 // A slice is written in the wanted layer.
-fn coded_form(alloc: Global, plan: Plan, sets: &Sets, unit: &[u8]) -> Result<UnitForm, UnitFault>
+fn coded_form(alloc: Global, plan: Plan, sets: &Sets, unit: &[u8]) -> Result<UnitForm, RewriteFault>
     requires kind { kind_of unit.now ≡ UnitKind.Slice }
     requires some { 1 ≤ length unit.now }
     ensures ok { IfOk result (λ form. IsForm plan sets.now sets.now unit.now form.bytes.items form.macroblocks) }
     ensures err { IfErr result (IsRefusal plan sets.now unit.now) }
 {
-    let payload = match unescape(alloc, unit) {
-        Ok(payload) => payload,
-        Err(fault) => return Err(fault_of_escape(fault)),
-    };
-    let number = named_set(payload.as_slice());
-    let slice = match recode_slice(alloc, sets, unit[0], payload.as_slice(), plan.to, number) {
-        Ok(slice) => slice,
-        Err(fault) => return Err(fault_of_slice(fault)),
-    };
-    match payload_unit(alloc, unit[0], slice.payload.as_slice()) {
-        Ok(bytes) => Ok(UnitForm {
-            bytes,
-            macroblocks: slice.macroblocks,
-        }),
-        Err(_) => Err(UnitFault::Memory),
+    let payload = unescape(alloc, unit)?;
+    let opened = open_slice(alloc, sets, unit[0], payload.as_slice(), plan.to)?;
+    let number = opened.pps_number();
+    let slice = opened.recode(alloc, plan.to, number)?;
+    let bytes = payload_unit(alloc, unit[0], slice.payload.as_slice())?;
+    Ok(UnitForm {
+        bytes,
+        macroblocks: slice.macroblocks,
+    })
+}
+
+// Why a parameter set isn't read; where its bits have no reading this is the name of that.
+fn set_fault(unread: Why, fault: SetFault) -> RewriteFault
+    ensures { result ≡ set_fault unread fault }
+{
+    match fault {
+        SetFault::NoReading => RewriteFault::Outside(unread),
+        SetFault::Profile => RewriteFault::Outside(Why::Profile),
+        SetFault::Limit => RewriteFault::Outside(Why::Limit),
+        SetFault::Memory => RewriteFault::Memory,
     }
 }
 

@@ -5,8 +5,6 @@ use Rattle.cavlc_syntax.specs.Written.{WritesFor}
 use Rattle.h264_types.specs.declared.layer.Layer.TheVariants.{Cavlc}
 use Rattle.h264_types.specs.declared.macroblock.Mb.{Mb}
 use Rattle.h264_types.specs.declared.macroblock.MbKind.TheVariants.{Skip}
-use Rattle.slice_rewrite.specs.SliceForms.{PutsWritten}
-use Rattle.slice_rewrite.specs.declared.put.WriteFault.{WriteFault}
 use Rattle.slice_rewrite.specs.Written.{written_mb}
 use Rattle.slice_rewrite.proofs.SliceForms.{begins_at}
 use Rattle.slice_rewrite.proofs.Stops.{next_front, stops_at}
@@ -38,20 +36,18 @@ put_written-requires g c kept =
     let inv = c.loop-k.invariant in
     (c.args.shape, g.K.BitSink.bits c.args.out, map (written_mb Cavlc) (take c.loop-k.k c.args.mbs.now), inv.writes, begins_at c.args.shape c.args.mbs.now c.loop-k.k _ c.loop-k-test.true c.requires.mbs inv.goes_on kept)
 
-pub returns-in-Err-Stop-clause-err : goal.returns-in-Err-Stop-clause-err
-returns-in-Err-Stop-clause-err g c =
+pub returns-in-Some-clause-err : goal.returns-in-Some-clause-err
+returns-in-Some-clause-err g c =
     let inv = c.loop-k.invariant in
-    let out = g.K.BitSink.bits c.args.out in
     let done = map (written_mb Cavlc) (take c.loop-k.k c.args.mbs.now) in
-    let Q : WriteFault → Type 0 = λ fault. PutsWritten g.K.BitSink.bits c.put_written.new.writer c.args.shape out done (get_or c.args.mbs.now c.loop-k.k nothing) (Err fault) in
-    stops_at Cavlc c.args.shape c.args.mbs.now c.loop-k.k nothing c.in-Err-Stop.case c.loop-k-test.true inv.goes_on (subst Q c.in-Err-Stop.field-0-is (c.in-Err-Stop.ensures c.args.shape out done inv.writes))
-    ∙ ap (λ case. Some (case, c.loop-k.k)) (sym c.in-Err-Stop.case-is)
+    let put = c.in_ok-case.ensures c.args.shape (g.K.BitSink.bits c.args.out) done inv.writes in
+    stops_at Cavlc c.args.shape c.args.mbs.now c.loop-k.k nothing c.in-Some.case c.loop-k-test.true inv.goes_on (rw c.in-Some.is at put)
 
 pub loop-k-preserved : goal.loop-k-preserved
 loop-k-preserved g c =
     let inv = c.loop-k.invariant in
     let out = g.K.BitSink.bits c.args.out in
-    let put = c.in-Ok-put_written.ensures c.args.shape out (map (written_mb Cavlc) (take c.loop-k.k c.args.mbs.now)) inv.writes in
+    let put = (rw c.in_default.is at c.in_ok-case.ensures) c.args.shape out (map (written_mb Cavlc) (take c.loop-k.k c.args.mbs.now)) inv.writes in
     let W : List Mb → Type 0 = λ list. WritesFor g.K.BitSink.bits c.put_written.new.writer c.args.shape out list in
     record {
       writes = subst W (sym (map_more (written_mb Cavlc) c.args.mbs.now c.loop-k.k _ c.loop-k-test.true)) put.1;

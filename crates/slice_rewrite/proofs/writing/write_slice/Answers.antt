@@ -1,20 +1,39 @@
-use Rattle.std.proofs.Common.{List, map, subst}
+use Rattle.std.proofs.Common.{◌≡◌, List, map, subst}
+use Rattle.std.proofs.lemmas.Result.{err_from_is_err_and}
+use Rattle.header_parts.specs.ActiveSets.{Active, active_view}
 use Rattle.h264_types.specs.declared.layer.Layer.TheVariants.{Cavlc}
 use Rattle.h264_types.specs.declared.macroblock.Mb.{Mb}
-use Rattle.slice_rewrite.specs.SliceForms.{IsDataWritten}
+use Rattle.param_sets.specs.SpsCodes.{IsSps}
+use Rattle.bit_texts.specs.Texts.{Appended}
+use Rattle.slice_header.specs.HeaderCodes.{active_in, header_in, header_text}
+use Rattle.slice_header.specs.Shape.{shape_of}
+use Rattle.slice_rewrite.specs.SliceForms.{IsDataWritten, IsNoDataWritten}
 use Rattle.slice_rewrite.specs.Written.{written_mb}
-use Rattle.slice_rewrite.proofs.SliceForms.{under_built, data_fills, slice_put}
+use Rattle.slice_rewrite.proofs.SliceForms.{under_named, under_built, data_fills, slice_put, slice_not_put}
 use Rattle.slice_rewrite.proofs.writing.write_slice.Goals as goal
 
 pub write_data-requires-clause-shape : goal.write_data-requires-clause-shape
 write_data-requires-clause-shape c =
-    (under_built c.args.sets.now c.requires.slice.0 c.args.slice.now.header c.args.slice.now.mbs.items c.shape.result c.requires.slice.1 c.shape.ensures.shape c.shape.ensures.in_range).0
+    let sets = c.args.sets.now in
+    let h = c.args.slice.now.header in
+    let found = active_view c.sets_of-active.result in
+    let names = c.sets_of-active.ensures.names in
+    let u = c.requires.slice.1 in
+    (under_built sets c.requires.slice.0 h c.args.slice.now.mbs.items c.shape_under-shape.result u
+    (under_named (λ a. c.shape_under-shape.result ≡ shape_of a h) sets h.pic_parameter_set_id found names c.shape_under-shape.ensures)
+    (under_named (λ a. IsSps a.sps) sets h.pic_parameter_set_id found names c.sets_of-active.ensures.in_range.0 c.requires.slice.0 u.names)).0
 
 pub into_bytes-requires : goal.into_bytes-requires
-into_bytes-requires c = data_fills c.shape.result c.write_header.new.out c.in-Ok-write_data.out (map (written_mb Cavlc) c.deref.result.now) c.in-Ok-write_data.ensures.ok.written
+into_bytes-requires c = data_fills c.shape_under-shape.result c.write_header_under.new.out c.in_ok-out.out (map (written_mb Cavlc) c.deref.result.now) c.in_ok-out.ensures.ok.written
 
-pub returns-in-Ok-write_data-clause-ok : goal.returns-in-Ok-write_data-clause-ok
-returns-in-Ok-write_data-clause-ok c active under =
-    let D : List Mb → Type 0 = λ mbs. IsDataWritten c.shape.result mbs c.write_header.new.out c.in-Ok-write_data.out in
-    slice_put c.args.how.to c.args.how.number c.args.how.idc c.args.sets.now active c.args.slice.now.header c.args.slice.now.mbs.items c.shape.result c.new-out.result c.write_header.new.out c.in-Ok-write_data.out c.into_bytes.result.items
-    c.requires.to under c.shape.ensures.shape c.new-out.ensures c.in-Ok.ensures (subst D c.deref.ensures.value c.in-Ok-write_data.ensures.ok) c.into_bytes.ensures
+pub returns-clause-ok : goal.returns-clause-ok
+returns-clause-ok c active under =
+    let sets = c.args.sets.now in
+    let h = c.args.slice.now.header in
+    let found = active_view c.sets_of-active.result in
+    let names = c.sets_of-active.ensures.names in
+    let PutsHeader : Active → Type 0 = λ a. Appended c.new-out.result c.write_header_under.new.out (header_text (active_in c.args.how.to c.args.how.number a) (header_in c.args.how.to c.args.how.number c.args.how.idc h)) in
+    let D : List Mb → Type 0 = λ mbs. IsDataWritten c.shape_under-shape.result mbs c.write_header_under.new.out c.in_ok-out.out in
+    slice_put c.args.how.to c.args.how.number c.args.how.idc sets active h c.args.slice.now.mbs.items c.shape_under-shape.result c.new-out.result c.write_header_under.new.out c.in_ok-out.out c.into_bytes.result.items
+    c.requires.to under (under_named (λ a. c.shape_under-shape.result ≡ shape_of a h) sets h.pic_parameter_set_id found names c.shape_under-shape.ensures) c.new-out.ensures
+    (under_named PutsHeader sets h.pic_parameter_set_id found names c.in_ok-write_header_under.ensures) (subst D c.deref.ensures.value c.in_ok-out.ensures.ok) c.into_bytes.ensures

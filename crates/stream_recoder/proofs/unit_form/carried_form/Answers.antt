@@ -5,5 +5,5 @@ use Rattle.stream_recoder.proofs.unit_form.carried_form.Goals as goal
 pub returns-then-not-has_payload-clause-err : goal.returns-then-not-has_payload-clause-err
 returns-then-not-has_payload-clause-err c = carried_escape c.args.plan.to c.args.sets.now c.args.unit.now c.requires.kind (sym c.if-not-has_payload.ensures)
 
-pub returns-in-Ok-clause-ok : goal.returns-in-Ok-clause-ok
-returns-in-Ok-clause-ok c = carried c.args.plan c.args.sets.now c.args.unit.now c.in-Ok.bytes.items c.requires.kind (sym c.if-not-has_payload.ensures) c.in-Ok.ensures
+pub returns-clause-ok : goal.returns-clause-ok
+returns-clause-ok c = carried c.args.plan c.args.sets.now c.args.unit.now c.in_ok-bytes.bytes.items c.requires.kind (sym c.if-not-has_payload.ensures) c.in_ok-bytes.ensures

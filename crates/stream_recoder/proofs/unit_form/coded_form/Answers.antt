@@ -1,39 +1,60 @@
-use Rattle.std.proofs.Common.{◌≡◌, ◌∙◌, ◌∷◌, ap, sym, List, ℕ, subst}
+use Rattle.std.proofs.Common.{◌∙◌, ◌∷◌, ap, sym, List, ℕ, subst}
+use Rattle.std.proofs.lemmas.Result.{err_from_is_err_and}
 use Rattle.bit_texts.specs.Bits.{bits_of, bytes_of}
 use Rattle.exp_golomb.specs.EmulationPrevention.{escaped}
 use Rattle.slice_rewrite.specs.Items.{header_of}
-use Rattle.slice_rewrite.specs.Written.{with_start_code, slice_under, slice_in, slice_bits}
-use Rattle.slice_rewrite.specs.SliceForms.{IsSliceForm, IsSliceRefusal}
+use Rattle.slice_rewrite.specs.Written.{with_start_code, slice_under, slice_bits}
+use Rattle.slice_rewrite.specs.SliceForms.{IsOpened, IsNotOpened}
 use Rattle.slice_rewrite.proofs.ComesBack.{slice_payload}
-use Rattle.slice_rewrite.proofs.SliceForms.{written_under_own}
-use Rattle.stream_recoder.specs.declared.fault.UnitFault.{UnitFault}
-use Rattle.stream_recoder.specs.Forms.{IsRefusal}
-use Rattle.stream_recoder.proofs.UnitForms.{has_escape, slice_refused, slice_written}
+use Rattle.slice_rewrite.proofs.SliceForms.{refused_as, written_under_own}
+use Rattle.stream_recoder.proofs.UnitForms.{escape_refused_slice, has_escape, slice_refused, slice_written}
 use Rattle.stream_recoder.proofs.unit_form.coded_form.Goals as goal
+
+pub returns-in_err-payload-clause-err : goal.returns-in_err-payload-clause-err
+returns-in_err-payload-clause-err c =
+    let p = err_from_is_err_and c.from_residual.result c.from_residual.ensures.1 in
+    rw (p.1, p.2) (escape_refused_slice c.args.plan c.args.sets.now c.args.unit.now c.in_err-payload.field-0.0 c.requires.kind c.in_err-payload.ensures.err)
+
+pub returns-in_err-opened-clause-err : goal.returns-in_err-opened-clause-err
+returns-in_err-opened-clause-err c =
+    let p = err_from_is_err_and c.from_residual-in_err-opened.result c.from_residual-in_err-opened.ensures.1 in
+    let header = header_of c.args.unit.now in
+    let N : List ℕ → Type 0 = λ payload. IsNotOpened c.args.plan.to c.args.sets.now header (bits_of payload) c.in_err-opened.field-0.0 in
+    rw (p.1, p.2) (slice_refused c.args.plan c.args.sets.now c.args.unit.now c.in_ok-payload.payload.items c.in_err-opened.field-0.0 c.requires.kind c.in_ok-payload.ensures.ok
+    (refused_as c.args.plan.to c.args.sets.now header (bits_of c.in_ok-payload.payload.items) c.in_err-opened.field-0.0 (subst N c.as_slice.ensures.value c.in_err-opened.ensures.err)))
+
+pub pps_number-requires : goal.pps_number-requires
+pps_number-requires c = c.in_ok-opened.ensures.ok.fits.pic_parameter_set_id
+
+pub recode-requires : goal.recode-requires
+recode-requires c = (c.args.sets.now, _, _, c.in_ok-opened.ensures.ok)
+
+pub returns-in_err-slice-clause-err : goal.returns-in_err-slice-clause-err
+returns-in_err-slice-clause-err c =
+    let p = err_from_is_err_and c.from_residual-in_err-slice.result c.from_residual-in_err-slice.ensures.1 in
+    let header = header_of c.args.unit.now in
+    let O : List ℕ → Type 0 = λ payload. IsOpened c.args.plan.to c.args.sets.now header (bits_of payload) c.in_ok-opened.opened in
+    rw (p.1, p.2) (slice_refused c.args.plan c.args.sets.now c.args.unit.now c.in_ok-payload.payload.items c.in_err-slice.field-0.0 c.requires.kind c.in_ok-payload.ensures.ok
+    (c.in_err-slice.ensures.err c.args.sets.now header (bits_of c.in_ok-payload.payload.items) (subst O c.as_slice.ensures.value c.in_ok-opened.ensures.ok)))
 
 pub payload_unit-requires : goal.payload_unit-requires
 payload_unit-requires c =
-    let f = c.in-Ok-recode_slice.ensures.ok in
-    let written = slice_under c.args.plan.to c.named_set-number.result 0 f.slice in
-    has_escape c.as_slice-3.result.now (slice_bits written) (slice_payload written) (ap bits_of c.as_slice-3.ensures.value ∙ f.written)
+    let f = c.in_ok-slice.ensures.ok c.args.sets.now _ _ c.in_ok-opened.ensures.ok in
+    let written = slice_under c.args.plan.to c.pps_number-number.result 0 f.slice in
+    has_escape c.as_slice-2.result.now (slice_bits written) (slice_payload written) (ap bits_of c.as_slice-2.ensures.value ∙ f.written)
 
-pub returns-in-Err-recode_slice-clause-err : goal.returns-in-Err-recode_slice-clause-err
-returns-in-Err-recode_slice-clause-err c =
-    let F : UnitFault → Type 0 = IsRefusal c.args.plan c.args.sets.now c.args.unit.now in
-    let P : List ℕ → Type 0 = λ payload. IsSliceRefusal c.args.plan.to c.args.sets.now (header_of c.args.unit.now) (bits_of payload) c.in-Err-recode_slice.fault in
-    subst F (sym c.fault_of_slice.ensures)
-    (slice_refused c.args.plan c.args.sets.now c.args.unit.now c.in-Ok.payload.items c.in-Err-recode_slice.fault c.requires.kind c.in-Ok.ensures.ok (subst P c.as_slice-2.ensures.value c.in-Err-recode_slice.ensures.err))
-
-pub returns-in-Ok-payload_unit-clause-ok : goal.returns-in-Ok-payload_unit-clause-ok
-returns-in-Ok-payload_unit-clause-ok c =
+pub returns-clause-ok : goal.returns-clause-ok
+returns-clause-ok c =
     let to = c.args.plan.to in
+    let sets = c.args.sets.now in
     let header = header_of c.args.unit.now in
-    let slice = c.in-Ok-recode_slice.slice in
-    let number = c.named_set-number.result in
-    let P : List ℕ → Type 0 = λ payload. IsSliceForm to number c.args.sets.now header (bits_of payload) slice.payload.items slice.macroblocks in
-    let Q : List ℕ → Type 0 = λ payload. (f : IsSliceForm to number c.args.sets.now header (bits_of payload) slice.payload.items slice.macroblocks) × (bits_of slice.payload.items ≡ slice_bits (slice_in to f.slice)) in
-    let f = subst P (c.as_slice-2.ensures.value ∙ sym c.as_slice.ensures.value) c.in-Ok-recode_slice.ensures.ok in
-    let own = written_under_own to number c.args.sets.now header (bits_of c.as_slice.result.now) slice.payload.items slice.macroblocks f (c.named_set-number.ensures c.args.sets.now header) in
-    let q = subst Q c.as_slice.ensures.value (f, own) in
-    slice_written c.args.plan c.args.sets.now c.args.unit.now c.in-Ok.payload.items c.in-Ok-payload_unit.bytes.items slice.payload.items number slice.macroblocks c.requires.kind c.in-Ok.ensures.ok q.0 q.1
-    (c.in-Ok-payload_unit.ensures ∙ ap (λ p. with_start_code (header ∷ escaped (bytes_of (bits_of p)))) c.as_slice-3.ensures.value)
+    let opened = c.in_ok-opened.opened in
+    let slice = c.in_ok-slice.slice in
+    let number = c.pps_number-number.result in
+    let bits = bits_of c.in_ok-payload.payload.items in
+    let O : List ℕ → Type 0 = λ payload. IsOpened to sets header (bits_of payload) opened in
+    let r = subst O c.as_slice.ensures.value c.in_ok-opened.ensures.ok in
+    let f = rw c.pps_number-number.ensures at (c.in_ok-slice.ensures.ok sets header bits r) in
+    slice_written c.args.plan sets c.args.unit.now c.in_ok-payload.payload.items c.in_ok-bytes.bytes.items slice.payload.items opened.header.pic_parameter_set_id slice.macroblocks c.requires.kind c.in_ok-payload.ensures.ok f
+    (written_under_own to sets header bits opened slice.payload.items slice.macroblocks r f)
+    (c.in_ok-bytes.ensures ∙ ap (λ p. with_start_code (header ∷ escaped (bytes_of (bits_of p)))) c.as_slice-2.ensures.value)
