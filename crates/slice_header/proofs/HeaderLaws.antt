@@ -161,7 +161,8 @@ some_l0 false p sent h = omega arith
 some_l1 : (i p b : Bool) (sent : ℕ) → (i ≡ false → p ≡ false → b ≡ true) → IsTrue (predicts_from (cond i I (cond p P B)) 1) → 1 ≤ cond b (sent + 1) 0
 some_l1 true p b sent is h = absurd cc
 some_l1 false true b sent is h = absurd cc
-some_l1 false false b sent is h = rw is refl refl (omega arith)
+some_l1 false false true sent is h = omega arith
+some_l1 false false false sent is h = absurd (let bad : false ≡ true = is refl refl in cc)
 
 is_b_else : (slice_type : ℕ) → is_switching slice_type ≡ false → is_i slice_type ≡ false → is_p slice_type ≡ false → is_b slice_type ≡ true
 is_b_else slice_type scope i p = grind (arith, nat_tests)

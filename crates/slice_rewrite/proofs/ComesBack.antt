@@ -1,12 +1,13 @@
 -- What is written for an item is read as that item in the wanted layer.
 use Rattle.std.proofs.Common.{◌≡◌, ◌≢◌, ℕ, ◌-◌, ◌%◌, ◌<◌, List, [], ◌∷◌, ◌++◌, length, Bool, true, false, cond, eqb, get_or, map, Some, None, option_map, refl, sym, ap, subst, ◌∙◌, arith, length-append, append_assoc, replicate}
-use Rattle.std.specs.Prelude.{◌||◌}
+use Rattle.std.specs.Prelude.{◌||◌, ◌≤◌, if◌then◌else◌}
+use Rattle.header_parts.specs.SliceTypes.{is_i}
 use Rattle.std.proofs.lemmas.Bool.{eqb-true}
 use Rattle.bit_texts.specs.Bits.{bits_of, bytes_of}
 use Rattle.bit_texts.proofs.Bytes.{bits_of-bytes_of}
 use Rattle.h264_types.specs.Sizes.{HasSizes}
 use Rattle.cavlc_syntax.specs.SliceText.{IsBuilt, IsNotBeyond, HasText, slice_text}
-use Rattle.cavlc_syntax.proofs.Texts.{slice_fills, slice_stops}
+use Rattle.cavlc_syntax.proofs.Texts.{lists_of_both, slice_fills, slice_stops}
 use Rattle.exp_golomb.specs.EmulationPrevention.{IsEscape, HasEscape, escaped}
 use Rattle.exp_golomb.specs.Syntax.{Found, Spells}
 use Rattle.h264_types.specs.Units.{IsHeaded}
@@ -45,7 +46,7 @@ use Rattle.slice_rewrite.specs.Items.{header_of, kind_of, kind_of_type, Slice, I
 use Rattle.slice_rewrite.specs.Stops.{least_stop, slice_stop}
 use Rattle.slice_rewrite.specs.View.{IsWritable}
 use Rattle.slice_rewrite.specs.Written.{sps_unit, pps_unit, written_mb, slice_in, slice_bits, slice_unit}
-use Rattle.slice_rewrite.proofs.Normal.{written_sizes, slice_written}
+use Rattle.slice_rewrite.proofs.Normal.{slice_written}
 use Rattle.slice_rewrite.proofs.Slices.{fit, not_unbuilt, names-once}
 use Rattle.slice_rewrite.proofs.Stops.{all_go, goes_within, none_emptied}
 use Rattle.slice_rewrite.proofs.Splitting.{Fits}
@@ -156,40 +157,20 @@ names-back to sets new n active h k = record {
 allowed-back : (n : ℕ) (active : Active) → IsAllowed active → IsAllowed (active_in Cavlc n (unconstrained active))
 allowed-back n active h = h
 
--- which lists are those of a slice doesn't rest on the column
-another_column : (shape : SliceShape) (column : ℕ) (mbs : List Mb) → AreMacroblocks shape mbs → AreMacroblocks (record shape { column = column }) mbs
-another_column shape column mbs is = record {
-  some = is.some;
-  inside = is.inside;
-  macroblocks = All-weaker (IsMacroblock shape) (IsMacroblock (record shape { column = column })) (λ mb one. record {
-    typed = record { kind = one.typed.kind; ref0 = one.typed.ref0; field = one.typed.field; t8 = one.typed.t8 };
-    intra = one.intra;
-    inter = record { subs = one.inter.subs; l0 = list one.inter.l0; l1 = list one.inter.l1 };
-    coded = one.coded;
-  }) mbs is.macroblocks;
-  pairs = λ mbaff. record {
-    even = (is.pairs mbaff).even;
-    each = λ pair within. let both = (is.pairs mbaff).each pair within in record { same = both.same; inferred = both.inferred };
-  };
-}
-  where
-    list : {mb : Mb} {x : ℕ} → IsListSent shape mb x → IsListSent (record shape { column = column }) mb x
-    list is = record { refs = is.refs; refs_repeat = is.refs_repeat; mvd = is.mvd; mvd_repeat = is.mvd_repeat }
+-- a column of I slices, or of cabac_init_idc 0
+small_column : (i : Bool) → (if i then 0 else 1) ≤ 3
+small_column true = omega arith
+small_column false = omega arith
 
 -- what is written of macroblocks that can be written is a list that has a text, in the shape that is written: that of the
 -- slice but for the column
-written_text : (shape : SliceShape) (column : ℕ) (mbs : List Mb) → HasText shape mbs → least_stop Cavlc shape mbs ≡ None → IsBuilt (record shape { column = column }) → HasText (record shape { column = column }) (map (written_mb Cavlc) mbs)
-written_text shape column mbs h goes_on built =
+written_text : (shape : SliceShape) (column : ℕ) (mbs : List Mb) → HasText shape mbs → least_stop Cavlc shape mbs ≡ None → column ≤ 3 → HasText (record shape { column = column }) (map (written_mb Cavlc) mbs)
+written_text shape column mbs h goes_on few =
     let kept = none_emptied Cavlc shape mbs goes_on in
-    record {
-      built = built;
-      size = h.size;
-      refs = record { l0 = h.refs.l0; l1 = h.refs.l1 };
-      are = record {
-        slice = another_column shape column (map (written_mb Cavlc) mbs) (slice_written Cavlc shape mbs h.are.slice kept);
-        sizes = All-map HasSizes (written_mb Cavlc) mbs (λ k d below. written_sizes Cavlc (get_or mbs k d) (h.are.sizes k d below));
-      };
-      within = All-map (IsNotBeyond (record shape { column = column })) (written_mb Cavlc) mbs (λ k d below. goes_within shape (get_or mbs k d) (all_go Cavlc shape 0 mbs goes_on k d below));
+    lists_of_both shape (record shape { column = column }) (map (written_mb Cavlc) mbs) refl few record {
+      built = h.built;
+      slice = slice_written Cavlc shape mbs h.slice kept;
+      within = All-map (IsNotBeyond shape) (written_mb Cavlc) mbs (λ k d below. goes_within shape (get_or mbs k d) (all_go Cavlc shape 0 mbs goes_on k d below));
     }
 
 -- a slice's bits are whole bytes, of which the last one isn't 0
@@ -239,7 +220,7 @@ slice-written sets new header bits s stand is goes_on =
         rest = rest;
         header_is = subst P f.4 spelled;
         built = built;
-        list = written_text (shape_of s.active s.header) (column_of t.header) s.mbs is.list goes_on (not_unbuilt Cavlc t.active t.header built);
+        list = written_text (shape_of s.active s.header) (column_of t.header) s.mbs is.list goes_on (small_column (is_i s.header.slice_type));
         rest_is = ap (λ k. slice_text (shape_of t.active t.header) k t.mbs) (sym (behind_text text rest));
       },
     )

@@ -43,6 +43,7 @@ sent_list shape mb b x is = record { refs = is.refs; refs_repeat = is.refs_repea
 
 with_ref0 : (shape : SliceShape) (mb : Mb) (b : Bool) → (IsTrue b → IsTrue (is_ref0 mb)) → IsMacroblock shape mb → IsMacroblock shape (record mb { ref0 = b })
 with_ref0 shape mb b h is = record {
+  sizes = record { modes = is.sizes.modes; subs = is.sizes.subs; refs = is.sizes.refs; mvd = is.sizes.mvd; dc = is.sizes.dc; luma = is.sizes.luma; chroma_dc = is.sizes.chroma_dc; chroma_ac = is.sizes.chroma_ac; pcm = is.sizes.pcm };
   typed = record { kind = is.typed.kind; ref0 = h; field = is.typed.field; t8 = is.typed.t8 };
   intra = record { modes = is.intra.modes; chroma_mode = is.intra.chroma_mode };
   inter = record { subs = is.inter.subs; l0 = sent_list shape mb b 0 is.inter.l0; l1 = sent_list shape mb b 1 is.inter.l1 };
@@ -61,19 +62,6 @@ second_of false b h = absurd cc
 
 pub written_valid : (to : Layer) (shape : SliceShape) (mb : Mb) → IsMacroblock shape mb → (IsEmptied mb → ⊥) → IsMacroblock shape (written_mb to mb)
 written_valid to shape mb is kept = with_ref0 shape (normal mb) (not (mode_flag_of to) && is_ref0 mb) (second_of (not (mode_flag_of to)) (is_ref0 mb)) (valid-normal shape mb is kept)
-
-pub written_sizes : (to : Layer) (mb : Mb) → HasSizes mb → HasSizes (written_mb to mb)
-written_sizes to mb is = record {
-  modes = is.modes;
-  subs = is.subs;
-  refs = is.refs;
-  mvd = is.mvd;
-  dc = is.dc;
-  luma = is.luma;
-  chroma_dc = is.chroma_dc;
-  chroma_ac = is.chroma_ac;
-  pcm = is.pcm;
-}
 
 pattern_sent : (mb : Mb) → is_inter mb.kind ≡ true → pattern_of mb ≡ mb.pattern
 pattern_sent mb inter = by mb.kind inter
@@ -194,6 +182,7 @@ pub front_written : (to : Layer) (shape : SliceShape) (done tail : List Mb) → 
 front_written to shape done tail is kept =
     let same = same_length to done tail in
     record {
+      is_shape = is.is_shape;
       some = rw same is.some;
       inside = rw same is.inside;
       macroblocks = all_front (IsMacroblock shape) (written_mb to) done tail is.macroblocks (λ k d below one. written_valid to shape (get_or done k d) one (kept k d below));

@@ -5,7 +5,8 @@ use Rattle.std.proofs.lemmas.List.{map-append, take_more, take-append-drop}
 use Rattle.bit_texts.specs.Bits.{bits_of}
 use Rattle.bit_texts.specs.Texts.{Appended}
 use Rattle.h264_types.specs.Sizes.{HasSizes}
-use Rattle.cavlc_syntax.specs.SliceText.{IsBuiltShape, AreOfSlice, HasText, slice_text, NoList}
+use Rattle.cavlc_syntax.specs.SliceText.{IsBuiltShape, HasText, slice_text, NoList}
+use Rattle.h264_types.specs.Valid.{IsSlice}
 use Rattle.cavlc_syntax.specs.Standing.{Refuses}
 use Rattle.cavlc_syntax.specs.Written.{BeginsSlice, WritesFor}
 use Rattle.cavlc_syntax.specs.declared.writer.CavlcWriter.{CavlcWriter}
@@ -41,7 +42,7 @@ use Rattle.slice_rewrite.specs.Written.{written_mb, slice_under, slice_in, slice
 use Rattle.slice_rewrite.specs.declared.opening.OpenSlice.{OpenSlice}
 use Rattle.slice_rewrite.specs.Faults.{fault_of_header, fault_of_data}
 use Rattle.slice_rewrite.specs.SliceForms.{sets_in, Ends, IsSliceForm, IsSliceRefusal, coded, IsSliceRead, IsNotOpened, IsOpened, IsUnderSets, IsSliceWritten, IsNotWritten, IsCopy, IsNoCopy, IsNoDataRead, IsDataWritten, IsNoDataWritten}
-use Rattle.slice_rewrite.proofs.Normal.{all_front, front_written, written_sizes}
+use Rattle.slice_rewrite.proofs.Normal.{front_written}
 use Rattle.slice_rewrite.proofs.Slices.{fit, not_unbuilt, names-once, header-once, header-found, built_shape, built_under}
 use Rattle.slice_rewrite.proofs.Stops.{none_emptied}
 
@@ -151,24 +152,19 @@ all_snoc P (x ∷ done) mb is p zero d below = is zero d (omega arith)
 all_snoc P (x ∷ done) mb is p (suc k) d below = all_snoc P done mb (λ j e within. is (suc j) e (omega (arith, within))) p k d (omega (arith, below))
 
 -- a macroblock that isn't emptied may be put behind others in their written form
-pub begins_written : (shape : SliceShape) (done tail : List Mb) (mb : Mb) → AreOfSlice shape ((done ++ mb ∷ []) ++ tail) → least_stop Cavlc shape done ≡ None → (IsEmptied mb → ⊥)
+pub begins_written : (shape : SliceShape) (done tail : List Mb) (mb : Mb) → IsSlice shape ((done ++ mb ∷ []) ++ tail) → least_stop Cavlc shape done ≡ None → (IsEmptied mb → ⊥)
     → BeginsSlice shape (map (written_mb Cavlc) done ++ written_mb Cavlc mb ∷ [])
 begins_written shape done tail mb are goes_on kept =
     let K : Mb → Type 0 = λ m. IsEmptied m → ⊥ in
     let all = all_snoc K done mb (none_emptied Cavlc shape done goes_on) kept in
-    let P : List Mb → Type 0 = λ front. AreOfSlice shape (front ++ tail) in (
-      tail,
-      subst P (map-append (written_mb Cavlc) done (mb ∷ [])) record {
-        slice = front_written Cavlc shape (done ++ mb ∷ []) tail are.slice all;
-        sizes = all_front HasSizes (written_mb Cavlc) (done ++ mb ∷ []) tail are.sizes (λ k d below one. written_sizes Cavlc _ one);
-      },
-    )
+    let P : List Mb → Type 0 = λ front. IsSlice shape (front ++ tail) in
+    (tail, subst P (map-append (written_mb Cavlc) done (mb ∷ [])) (front_written Cavlc shape (done ++ mb ∷ []) tail are all))
 
 -- the same of macroblock k behind the first k
-pub begins_at : (shape : SliceShape) (mbs : List Mb) (k : ℕ) (d : Mb) → k < length mbs → AreOfSlice shape mbs → least_stop Cavlc shape (take k mbs) ≡ None → (IsEmptied (get_or mbs k d) → ⊥)
+pub begins_at : (shape : SliceShape) (mbs : List Mb) (k : ℕ) (d : Mb) → k < length mbs → IsSlice shape mbs → least_stop Cavlc shape (take k mbs) ≡ None → (IsEmptied (get_or mbs k d) → ⊥)
     → BeginsSlice shape (map (written_mb Cavlc) (take k mbs) ++ written_mb Cavlc (get_or mbs k d) ∷ [])
 begins_at shape mbs k d below are goes_on kept =
-    let A : List Mb → Type 0 = AreOfSlice shape in
+    let A : List Mb → Type 0 = IsSlice shape in
     let whole : (take k mbs ++ get_or mbs k d ∷ []) ++ drop (k + 1) mbs ≡ mbs = ap (λ x. x ++ drop (k + 1) mbs) (sym (take_more mbs k d below)) ∙ take-append-drop (k + 1) mbs in
     begins_written shape (take k mbs) (drop (k + 1) mbs) (get_or mbs k d) (subst A (sym whole) are) goes_on kept
 
@@ -188,7 +184,7 @@ slice_not_put Cavlc sets active h mbs shape (Stop case k) e u is none = ap (λ s
 slice_not_put Cavlc sets active h mbs shape Memory e u is none = tt
 
 -- a slice that was read may be written, with other macroblocks of its shape too
-pub under_read : (sets : SetMaps) (header : ℕ) (bits : List Bool) (h : Header) (mbs others : List Mb) → IsSliceRead sets header bits h mbs → ((active : Active) → Names sets h.pic_parameter_set_id active → AreOfSlice (shape_of active h) others)
+pub under_read : (sets : SetMaps) (header : ℕ) (bits : List Bool) (h : Header) (mbs others : List Mb) → IsSliceRead sets header bits h mbs → ((active : Active) → Names sets h.pic_parameter_set_id active → IsSlice (shape_of active h) others)
     → (active : Active) × IsUnderSets sets active h others
 under_read sets header bits h mbs others r are =
     let is = r.1 in
@@ -200,12 +196,12 @@ under_read sets header bits h mbs others r are =
 pub may_be_written : (sets : SetMaps) (header : ℕ) (bits : List Bool) (h : Header) (mbs : List Mb) → IsSliceRead sets header bits h mbs → (active : Active) × IsUnderSets sets active h mbs
 may_be_written sets header bits h mbs r =
     let is = r.1 in
-    let A : Active → Type 0 = λ a. AreOfSlice (shape_of a h) mbs in
-    under_read sets header bits h mbs mbs r (λ active names. subst A (names-once sets h.pic_parameter_set_id r.0 active is.names names) is.list.are)
+    let A : Active → Type 0 = λ a. IsSlice (shape_of a h) mbs in
+    under_read sets header bits h mbs mbs r (λ active names. subst A (names-once sets h.pic_parameter_set_id r.0 active is.names names) is.list.slice)
 
-pub under_built : (sets : SetMaps) (active : Active) (h : Header) (mbs : List Mb) (shape : SliceShape) → IsUnderSets sets active h mbs → IsShape sets h shape → IsSps active.sps → IsBuiltShape shape × AreOfSlice shape mbs
+pub under_built : (sets : SetMaps) (active : Active) (h : Header) (mbs : List Mb) (shape : SliceShape) → IsUnderSets sets active h mbs → IsShape sets h shape → IsSps active.sps → IsBuiltShape shape × IsSlice shape mbs
 under_built sets active h mbs shape u is range =
-    let A : SliceShape → Type 0 = λ s. AreOfSlice s mbs in
+    let A : SliceShape → Type 0 = λ s. IsSlice s mbs in
     let same = sym (is active u.names) in
     (subst IsBuiltShape same (built_shape active h range u.fits u.built), subst A same u.are)
 

@@ -25,7 +25,7 @@ use Rattle.slice_header.specs.Shape.{is_mbaff, shape_of}
 use Rattle.header_parts.specs.ActiveSets.{Active}
 use Rattle.slice_header.specs.SliceHeader.{slice_header}
 use Rattle.header_parts.specs.declared.header.Header.{Header}
-use Rattle.slice_header.proofs.HeaderLaws.{written_one, shape_fits, references_fit}
+use Rattle.slice_header.proofs.HeaderLaws.{written_one, shape_fits}
 use Rattle.slice_rewrite.specs.Items.{Slice, is_unbuilt, IsSliceOf}
 use Rattle.slice_rewrite.specs.Verdict.{why_of_header, IsNoText, IsNoData, HasNoData, IsNoSlice}
 
@@ -170,9 +170,7 @@ not_unbuilt to active h e =
     record { mbaff = f.mbaff }
 
 pub built_shape : (active : Active) (h : Header) → IsSps active.sps → HeaderFits active h → IsBuilt (shape_of active h) → IsBuiltShape (shape_of active h)
-built_shape active h sps fits built =
-    let few = references_fit active h fits in
-    record { is_shape = shape_fits active h sps fits; built = built; refs = record { l0 = few.0; l1 = few.1 } }
+built_shape active h sps fits built = record { is_shape = shape_fits active h sps fits; built = built }
 
 pub built_under : (to : Layer) (active : Active) (h : Header) → IsSps active.sps → HeaderFits active h → is_unbuilt to active h ≡ false → IsBuiltShape (shape_of active h)
 built_under to active h sps fits e = built_shape active h sps fits (not_unbuilt to active h e)

@@ -118,19 +118,19 @@ stops_at to shape mbs k d case below e f =
 
 -- ## Levels that were read
 
-same_stop : (shape : SliceShape) (mb : Mb) → HasSizes mb → IsMacroblock shape mb → IsNotBeyond shape mb → mb_stop Cavlc shape mb ≡ mb_stop Cabac shape mb
-same_stop shape mb sizes is within = by (is_emptied mb) refl
+same_stop : (shape : SliceShape) (mb : Mb) → IsMacroblock shape mb → IsNotBeyond shape mb → mb_stop Cavlc shape mb ≡ mb_stop Cabac shape mb
+same_stop shape mb is within = by (is_emptied mb) refl
   where
     by : (emptied : Bool) → is_emptied mb ≡ emptied
         → (if emptied then Some Empty else (if is_beyond_mb (prefix_bound shape) (written_mb Cavlc mb) then Some Level else None)) ≡ (if emptied then Some Empty else None)
     by true e = refl
-    by false e = ap (λ b. if b then Some Level else None) (written_is_within Cavlc shape (prefix_bound shape) mb sizes is (λ gone. not_both (is_emptied mb) ((emptied_is mb).1 gone) e) within)
+    by false e = ap (λ b. if b then Some Level else None) (written_is_within Cavlc shape (prefix_bound shape) mb is.sizes is (λ gone. not_both (is_emptied mb) ((emptied_is mb).1 gone) e) within)
 
-same_stops : (shape : SliceShape) (k : ℕ) (mbs : List Mb) → All HasSizes mbs → All (IsMacroblock shape) mbs → All (IsNotBeyond shape) mbs → stop_from Cavlc shape k mbs ≡ stop_from Cabac shape k mbs
-same_stops shape k [] sizes are within = refl
-same_stops shape k (mb ∷ mbs) sizes are within =
-    ap (λ s. stop_or s k (stop_from Cavlc shape (k + 1) mbs)) (same_stop shape mb (sizes 0 mb (omega arith)) (are 0 mb (omega arith)) (within 0 mb (omega arith)))
-    ∙ ap (stop_or (mb_stop Cabac shape mb) k) (same_stops shape (k + 1) mbs (λ j d below. sizes (suc j) d (omega (arith, below))) (λ j d below. are (suc j) d (omega (arith, below))) (λ j d below. within (suc j) d (omega (arith, below))))
+same_stops : (shape : SliceShape) (k : ℕ) (mbs : List Mb) → All (IsMacroblock shape) mbs → All (IsNotBeyond shape) mbs → stop_from Cavlc shape k mbs ≡ stop_from Cabac shape k mbs
+same_stops shape k [] are within = refl
+same_stops shape k (mb ∷ mbs) are within =
+    ap (λ s. stop_or s k (stop_from Cavlc shape (k + 1) mbs)) (same_stop shape mb (are 0 mb (omega arith)) (within 0 mb (omega arith)))
+    ∙ ap (stop_or (mb_stop Cabac shape mb) k) (same_stops shape (k + 1) mbs (λ j d below. are (suc j) d (omega (arith, below))) (λ j d below. within (suc j) d (omega (arith, below))))
 
 pub stops_without_levels : (shape : SliceShape) (mbs : List Mb) → HasText shape mbs → least_stop Cavlc shape mbs ≡ least_stop Cabac shape mbs
-stops_without_levels shape mbs text = same_stops shape 0 mbs text.are.sizes text.are.slice.macroblocks text.within
+stops_without_levels shape mbs text = same_stops shape 0 mbs text.slice.macroblocks text.within

@@ -2,7 +2,8 @@
 use Rattle.std.specs.Prelude.{◌≡◌, ℕ, Bool, false, List, [], ◌∷◌, ◌++◌, length, map, Option, Some, None, Result, Ok, Err}
 use Rattle.std.specs.declared.alloc.AllocError.{AllocError}
 use Rattle.bit_texts.specs.Bits.{bits_of}
-use Rattle.cavlc_syntax.specs.SliceText.{IsBuilt, AreOfSlice, HasText, slice_text, NoList}
+use Rattle.cavlc_syntax.specs.SliceText.{IsBuilt, HasText, slice_text, NoList}
+use Rattle.h264_types.specs.Valid.{IsSlice}
 use Rattle.cavlc_syntax.specs.Written.{WritesFor}
 use Rattle.cavlc_syntax.specs.declared.writer.CavlcWriter.{CavlcWriter}
 use Rattle.h264_types.specs.declared.fault.Case.{Case}
@@ -75,7 +76,7 @@ pub record IsUnderSets (sets : SetMaps) (active : Active) (h : Header) (mbs : Li
   pub names : Names sets h.pic_parameter_set_id active
   pub fits : HeaderFits active h
   pub built : IsBuilt (shape_of active h)
-  pub are : AreOfSlice (shape_of active h) mbs
+  pub are : IsSlice (shape_of active h) mbs
 
 -- the payload that is written for it, where it can be written
 pub record IsSliceWritten (to : Layer) (number idc : ℕ) (s : Slice) (payload : List ℕ) : Type 0 where

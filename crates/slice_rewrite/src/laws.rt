@@ -3,7 +3,8 @@ ghost use Rattle.std.specs.Prelude.{◌≡◌, ◌<◌, ◌↔◌, List, Bool, l
 ghost use Rattle.h264_types.specs.declared.fault.Why.{Why};
 ghost use Rattle.h264_types.specs.declared.fault.Stopped.{Stopped};
 ghost use Rattle.h264_types.specs.declared.macroblock.Mb.{Mb};
-ghost use Rattle.cavlc_syntax.specs.SliceText.{AreOfSlice, HasText};
+ghost use Rattle.cavlc_syntax.specs.SliceText.{HasText};
+ghost use Rattle.h264_types.specs.Valid.{IsSlice};
 ghost use Rattle.h264_types.specs.declared.slice_shape.SliceShape.{SliceShape};
 ghost use Rattle.h264_types.specs.Qp.{qp_of};
 ghost use Rattle.pattern_fix.specs.NormalPattern.{IsEmptied, normal};
@@ -84,5 +85,5 @@ pub fn levels_that_are_read_are_written()
 pub fn slices_that_are_read_may_be_written()
     ensures same { (sets : SetMaps) (header : ℕ) (bits : List Bool) (h : Header) (mbs : List Mb) → IsSliceRead sets header bits h mbs → (active : Active) × IsUnderSets sets active h mbs }
     ensures others { (sets : SetMaps) (header : ℕ) (bits : List Bool) (h : Header) (mbs others : List Mb) → IsSliceRead sets header bits h mbs →
-        ((active : Active) → Names sets h.pic_parameter_set_id active → AreOfSlice (shape_of active h) others) → (active : Active) × IsUnderSets sets active h others }
+        ((active : Active) → Names sets h.pic_parameter_set_id active → IsSlice (shape_of active h) others) → (active : Active) × IsUnderSets sets active h others }
 {}

@@ -1,6 +1,7 @@
 // A slice, written from the list of its macroblocks.
 ghost use Rattle.std.specs.Prelude.{◌≡◌, ◌<◌, IfOk, IfErr};
-ghost use Rattle.cavlc_syntax.specs.SliceText.{IsBuiltShape, AreOfSlice};
+ghost use Rattle.cavlc_syntax.specs.SliceText.{IsBuiltShape};
+ghost use Rattle.h264_types.specs.Valid.{IsSlice};
 ghost use Rattle.h264_types.specs.declared.layer.Layer.TheVariants.{Cavlc};
 ghost use Rattle.header_parts.specs.ActiveSets.{Active};
 ghost use Rattle.slice_rewrite.specs.SliceForms.{coded, IsUnderSets, IsSliceWritten, IsNotWritten, IsDataWritten, IsNoDataWritten};
@@ -54,7 +55,7 @@ fn write_data<K: BitSink>(
     out: K,
 ) -> Result<K, RewriteFault>
     requires shape { IsBuiltShape shape }
-    requires mbs { AreOfSlice shape mbs.now }
+    requires mbs { IsSlice shape mbs.now }
     ensures ok { IfOk result (λ written. IsDataWritten shape mbs.now (K.bits out) (K.bits written)) }
     ensures err { IfErr result (IsNoDataWritten shape mbs.now) }
 {

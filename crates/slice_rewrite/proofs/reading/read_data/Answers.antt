@@ -37,6 +37,6 @@ loop-preserved g c =
     let S : List Mb → Type 0 = λ list. StandsFor at c.next_into.new.self c.args.shape pos all list in
     record {
       counted = ap length kept ∙ long ∙ ap (λ n. n + 1) c.loop.invariant.counted;
-      few = rw kept (omega (arith, begins.1.are.slice.inside, length-append (done ++ mb ∷ []) begins.0));
+      few = rw kept (omega (arith, begins.1.slice.inside, length-append (done ++ mb ∷ []) begins.0));
       stands = subst S (sym kept) gives.0;
     }

@@ -53,7 +53,7 @@ put_written-requires g c kept =
     let gives = subst P c.if-not-more.false (c.in_ok-more.ensures c.args.shape pos all inv.0 inv.3) in
     let begins = gives.1.begins in
     let none = none_of c.loop-count.stop c.if-is_none.ensures in
-    (c.args.shape, g.K.BitSink.bits c.args.out, map (written_mb Cavlc) inv.0, inv.5 none, begins_written c.args.shape inv.0 begins.0 mb begins.1.are (inv.4 ∙ none) kept)
+    (c.args.shape, g.K.BitSink.bits c.args.out, map (written_mb Cavlc) inv.0, inv.5 none, begins_written c.args.shape inv.0 begins.0 mb begins.1.slice (inv.4 ∙ none) kept)
 
 pub loop-count-preserved : goal.loop-count-preserved
 loop-count-preserved g c =
@@ -70,7 +70,7 @@ loop-count-preserved g c =
     let begins = gives.1.begins in
     let long : length (done ++ mb ∷ []) ≡ length done + 1 = length-append done (mb ∷ []) in
     let counted = long ∙ ap (λ n. n + 1) inv.1 in
-    let few : length (done ++ mb ∷ []) ≤ shape.width * shape.height = omega (arith, begins.1.are.slice.inside, length-append (done ++ mb ∷ []) begins.0) in
+    let few : length (done ++ mb ∷ []) ≤ shape.width * shape.height = omega (arith, begins.1.slice.inside, length-append (done ++ mb ∷ []) begins.0) in
     elim c.if-is_none.branch [
       | then-is_none+in_ok-case+in_default w ↦
           let none = none_of c.loop-count.stop w.if-is_none.ensures in

@@ -23,8 +23,8 @@ returns-in_err-opened-clause-err c =
     rw (p.1, p.2) (slice_refused c.args.plan c.args.sets.now c.args.unit.now c.in_ok-payload.payload.items c.in_err-opened.field-0.0 c.requires.kind c.in_ok-payload.ensures.ok
     (refused_as c.args.plan.to c.args.sets.now header (bits_of c.in_ok-payload.payload.items) c.in_err-opened.field-0.0 (subst N c.as_slice.ensures.value c.in_err-opened.ensures.err)))
 
-pub pps_number-requires : goal.pps_number-requires
-pps_number-requires c = c.in_ok-opened.ensures.ok.fits.pic_parameter_set_id
+pub pps_number-number-requires : goal.pps_number-number-requires
+pps_number-number-requires c = c.in_ok-opened.ensures.ok.fits.pic_parameter_set_id
 
 pub recode-requires : goal.recode-requires
 recode-requires c = (c.args.sets.now, _, _, c.in_ok-opened.ensures.ok)

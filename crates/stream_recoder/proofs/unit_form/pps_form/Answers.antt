@@ -12,6 +12,6 @@ returns-in_err-payload-clause-err c =
 
 pub returns-clause-ok : goal.returns-clause-ok
 returns-clause-ok c =
-    let P : List ℕ → Type 0 = λ payload. PpsText c.in-Ok-read_pps.pps (bits_of payload) in
-    pps_written c.args.plan c.args.sets.now c.put_pps.new.self c.args.unit.now c.in_ok-payload.payload.items c.in_ok-bytes.bytes.items c.in-Ok-read_pps.pps c.requires.whole c.requires.kind c.in_ok-payload.ensures.ok
-    (subst P c.as_slice.ensures.value c.in-Ok-read_pps.ensures.reads) c.in_ok-bytes.ensures c.in_ok-put_pps.ensures.ok
+    let P : List ℕ → Type 0 = λ payload. PpsText c.in-Ok.pps (bits_of payload) in
+    pps_written c.args.plan c.args.sets.now c.put_pps.new.self c.args.unit.now c.in_ok-payload.payload.items c.in_ok-bytes.bytes.items c.in-Ok.pps c.requires.whole c.requires.kind c.in_ok-payload.ensures.ok
+    (subst P c.as_slice.ensures.value c.in-Ok.ensures.reads) c.in_ok-bytes.ensures c.in_ok-put_pps.ensures.ok

@@ -13,7 +13,7 @@ returns-in_err-payload-clause-err c =
 
 pub returns-clause-ok : goal.returns-clause-ok
 returns-clause-ok c =
-    let P : List ℕ → Type 0 = λ payload. SpsText c.in-Ok-read_sps.sps (bits_of payload) in
+    let P : List ℕ → Type 0 = λ payload. SpsText c.in-Ok.sps (bits_of payload) in
     let u = c.in_ok-bytes.ensures in
-    sps_written c.args.plan c.args.sets.now c.put_sps.new.self c.args.unit.now c.in_ok-payload.payload.items c.in_ok-bytes.bytes.items c.in-Ok-read_sps.sps c.requires.kind c.in_ok-payload.ensures.ok
-    (subst P c.as_slice.ensures.value c.in-Ok-read_sps.ensures.reads) u.bytes (c.in_ok-put_sps.ensures.ok ∙ ap (λ s. sps_put s c.args.sets.now) u.kept)
+    sps_written c.args.plan c.args.sets.now c.put_sps.new.self c.args.unit.now c.in_ok-payload.payload.items c.in_ok-bytes.bytes.items c.in-Ok.sps c.requires.kind c.in_ok-payload.ensures.ok
+    (subst P c.as_slice.ensures.value c.in-Ok.ensures.reads) u.bytes (c.in_ok-put_sps.ensures.ok ∙ ap (λ s. sps_put s c.args.sets.now) u.kept)
