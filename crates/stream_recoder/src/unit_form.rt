@@ -47,7 +47,12 @@ pub fn unit_form(
 }
 
 // A carried unit is written as it was read.
-fn carried_form(alloc: Global, plan: Plan, sets: &Sets, unit: &[u8]) -> Result<UnitForm, RewriteFault>
+fn carried_form(
+    alloc: Global,
+    plan: Plan,
+    sets: &Sets,
+    unit: &[u8],
+) -> Result<UnitForm, RewriteFault>
     requires kind { kind_of unit.now ≡ UnitKind.Carried }
     requires some { 1 ≤ length unit.now }
     ensures ok { IfOk result (λ form. IsForm plan sets.now sets.now unit.now form.bytes.items form.macroblocks) }
@@ -74,7 +79,12 @@ fn with_start_code(alloc: Global, unit: &[u8]) -> Result<Vec<u8>, Memory>
 }
 
 // A sequence parameter set is written without the constraint flags that promise streams without CABAC.
-fn sps_form(alloc: Global, plan: Plan, sets: &mut Sets, unit: &[u8]) -> Result<UnitForm, RewriteFault>
+fn sps_form(
+    alloc: Global,
+    plan: Plan,
+    sets: &mut Sets,
+    unit: &[u8],
+) -> Result<UnitForm, RewriteFault>
     requires kind { kind_of unit.now ≡ UnitKind.Sps }
     requires some { 1 ≤ length unit.now }
     ensures ok { IfOk result (λ form. IsForm plan sets.old sets.new unit.now form.bytes.items form.macroblocks) }
@@ -94,7 +104,12 @@ fn sps_form(alloc: Global, plan: Plan, sets: &mut Sets, unit: &[u8]) -> Result<U
 }
 
 // A picture parameter set is written in the wanted layer.
-fn pps_form(alloc: Global, plan: Plan, sets: &mut Sets, unit: &[u8]) -> Result<UnitForm, RewriteFault>
+fn pps_form(
+    alloc: Global,
+    plan: Plan,
+    sets: &mut Sets,
+    unit: &[u8],
+) -> Result<UnitForm, RewriteFault>
     requires kind { kind_of unit.now ≡ UnitKind.Pps }
     requires some { 1 ≤ length unit.now }
     requires whole { plan.range ≡ None }
