@@ -155,7 +155,9 @@ fn recode_all<S: Source, K: Sink>(
             Ok(count) => count,
         };
         if count == 0 {
-            return match finish(recoder, out, account) {
+            // The end of the input acts as three more zero bytes do.
+            let ended = step(recoder, &[0, 0, 0], out, account);
+            return match ended {
                 Err(status) => status,
                 Ok(()) => Status::Ok,
             };
@@ -184,23 +186,6 @@ fn step<K: Sink>(
     ensures later { K.faults out.old ≤ K.faults out.new }
 {
     let fed = recoder.feed(piece);
-    match put_waiting(recoder, out, account) {
-        Err(fault) => Err(status_of(fault)),
-        Ok(()) => match fed {
-            Err(stopped) => Err(ended_by(stopped)),
-            Ok(()) => Ok(()),
-        },
-    }
-}
-
-// The end of the input, as a piece.
-fn finish<K: Sink>(recoder: &mut Recoder, out: &mut K, account: &mut Account) -> Result<(), Status>
-    ensures ok { OnOk result ((o : _) → PieceDone o recoder.old recoder.new (K.held out.old) (K.held out.new) account.old account.new (0 ∷ 0 ∷ 0 ∷ [])) }
-    ensures err { IfErr result (λ status. (o : _) (fed : List ℕ) (written : List Written) → IsReady recoder.old o fed written → PieceEnds o (K.held out.old) (K.held out.new) written (seen (fed ++ 0 ∷ 0 ∷ 0 ∷ [])) status) }
-    ensures cause { IfErr result (λ status. status ≡ Status.WriteFault → Rose (K.faults out.old) (K.faults out.new)) }
-    ensures later { K.faults out.old ≤ K.faults out.new }
-{
-    let fed = recoder.finish();
     match put_waiting(recoder, out, account) {
         Err(fault) => Err(status_of(fault)),
         Ok(()) => match fed {

@@ -31,34 +31,34 @@ returns-in-Err-clause-ends g c =
     read_fault c.args.recoder.now.plan (left c.args.src.now) (left c.reading.src) (left c.read_some.new.src) (held c.args.out.now) (held c.reading.out) c.reading.recoder c.reading.account c.reading.taken c.args.bound
     i.reads i.within c.in-Err.ensures.bytes
 
-pub returns-in-Err-finish-clause-ends : goal.returns-in-Err-finish-clause-ends
-returns-in-Err-finish-clause-ends g c =
+pub returns-in-Err-ended-clause-ends : goal.returns-in-Err-ended-clause-ends
+returns-in-Err-ended-clause-ends g c =
     let i = c.reading.invariant in
     let left = g.S.Source.left in
     let held = g.K.Sink.held in
     let o = c.args.recoder.now.plan in
     let k = c.in-Ok.ensures.bytes in
     let P : List ℕ → Type 0 = Consumes (left c.reading.src) (left c.read_some.new.src) in
-    finish_ends o (left c.args.src.now) (left c.reading.src) (left c.read_some.new.src) (held c.args.out.now) (held c.reading.out) (held c.finish.new.out) c.reading.recoder c.reading.account c.finish.new.account c.reading.taken c.args.bound c.in-Err-finish.status
-    i.reads i.within (none_read P c.in-Ok.count c.read_some.new.buf c.if-count-eq0.true k.2) (k.3 c.if-count-eq0.true) (c.in-Err-finish.ensures.err o)
+    finish_ends o (left c.args.src.now) (left c.reading.src) (left c.read_some.new.src) (held c.args.out.now) (held c.reading.out) (held c.step-ended.new.out) c.reading.recoder c.reading.account c.step-ended.new.account c.reading.taken c.args.bound c.in-Err-ended.status
+    i.reads i.within (none_read P c.in-Ok.count c.read_some.new.buf c.if-count-eq0.true k.2) (k.3 c.if-count-eq0.true) (c.in-Err-ended.ensures.err o)
 
-pub returns-in-Err-finish-clause-read : goal.returns-in-Err-finish-clause-read
-returns-in-Err-finish-clause-read g c =
+pub returns-in-Err-ended-clause-read : goal.returns-in-Err-ended-clause-read
+returns-in-Err-ended-clause-read g c =
     let i = c.reading.invariant in
     let held = g.K.Sink.held in
     let o = c.args.recoder.now.plan in
-    no_read_fault o (held c.reading.out) (held c.finish.new.out) i.reads.written _ c.in-Err-finish.status (c.in-Err-finish.ensures.err o i.reads.fed i.reads.written i.reads.ready)
+    no_read_fault o (held c.reading.out) (held c.step-ended.new.out) i.reads.written _ c.in-Err-ended.status (c.in-Err-ended.ensures.err o i.reads.fed i.reads.written i.reads.ready)
 
-pub returns-in-Ok-finish-clause-ends : goal.returns-in-Ok-finish-clause-ends
-returns-in-Ok-finish-clause-ends g c =
+pub returns-in-Ok-ended-clause-ends : goal.returns-in-Ok-ended-clause-ends
+returns-in-Ok-ended-clause-ends g c =
     let i = c.reading.invariant in
     let left = g.S.Source.left in
     let held = g.K.Sink.held in
     let o = c.args.recoder.now.plan in
     let k = c.in-Ok.ensures.bytes in
     let P : List ℕ → Type 0 = Consumes (left c.reading.src) (left c.read_some.new.src) in
-    finished o (left c.args.src.now) (left c.reading.src) (left c.read_some.new.src) (held c.args.out.now) (held c.reading.out) (held c.finish.new.out) c.reading.recoder c.finish.new.recoder c.reading.account c.finish.new.account c.reading.taken c.args.bound
-    i.reads i.within (none_read P c.in-Ok.count c.read_some.new.buf c.if-count-eq0.true k.2) (k.3 c.if-count-eq0.true) (c.in-Ok-finish.ensures.ok o)
+    finished o (left c.args.src.now) (left c.reading.src) (left c.read_some.new.src) (held c.args.out.now) (held c.reading.out) (held c.step-ended.new.out) c.reading.recoder c.step-ended.new.recoder c.reading.account c.step-ended.new.account c.reading.taken c.args.bound
+    i.reads i.within (none_read P c.in-Ok.count c.read_some.new.buf c.if-count-eq0.true k.2) (k.3 c.if-count-eq0.true) (c.in-Ok-ended.ensures.ok o)
 
 pub returns-then-taken-bound-clause-ends : goal.returns-then-taken-bound-clause-ends
 returns-then-taken-bound-clause-ends g c =
