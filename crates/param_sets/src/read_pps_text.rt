@@ -66,33 +66,31 @@ fn read_head<B: BitSource>(alloc: Global, bits: &mut B) -> Result<Pps, SetFault>
 }
 
 #[tactic(auto, using(exp_golomb::proofs::Syntaxes::outcome_of_then), unfolding(exp_golomb::specs::Syntax::outcome_of, crate::specs::PictureParameterSet::pps_tail))]
-fn read_tail<B: BitSource>(alloc: Global, bits: &mut B, pps: Pps) -> Result<Pps, SetFault>
-    ensures { Answers pps_says (λ x. x) result (B.left bits.new) (outcome_of (pps_tail pps) (B.left bits.old)) }
+fn read_tail<B: BitSource>(alloc: Global, bits: &mut B, pps: &mut Pps) -> Result<(), SetFault>
+    ensures { Answers pps_says (λ done. pps.new) result (B.left bits.new) (outcome_of (pps_tail pps.old) (B.left bits.old)) }
 {
     let transform_8x8_mode_flag = flag(bits)?;
     let pic_scaling_matrix_present_flag = flag(bits)?;
     let count = if transform_8x8_mode_flag { 8 } else { 6 };
     let scaling_lists = read_scaling_matrix(alloc, bits, pic_scaling_matrix_present_flag, count)?;
     let second_chroma_qp_index_offset = se(bits, -12, 12)?;
-    Ok(Pps {
-        tail: true,
-        transform_8x8_mode_flag,
-        pic_scaling_matrix_present_flag,
-        scaling_lists,
-        second_chroma_qp_index_offset,
-        ..pps
-    })
+    pps.tail = true;
+    pps.transform_8x8_mode_flag = transform_8x8_mode_flag;
+    pps.pic_scaling_matrix_present_flag = pic_scaling_matrix_present_flag;
+    pps.scaling_lists = scaling_lists;
+    pps.second_chroma_qp_index_offset = second_chroma_qp_index_offset;
+    Ok(())
 }
 
 #[tactic(auto, using(exp_golomb::proofs::Syntaxes::outcome_of_then), unfolding(exp_golomb::specs::Syntax::outcome_of, crate::specs::PictureParameterSet::pps_fields))]
 fn read_fields<B: BitSource>(alloc: Global, bits: &mut B) -> Result<Pps, SetFault>
     ensures { Answers pps_says (λ x. x) result (B.left bits.new) (outcome_of pps_fields (B.left bits.old)) }
 {
-    let head = read_head(alloc, bits)?;
+    let mut pps = read_head(alloc, bits)?;
     if bits.more_rbsp_data() {
-        return read_tail(alloc, bits, head);
+        read_tail(alloc, bits, &mut pps)?;
     }
-    Ok(head)
+    Ok(pps)
 }
 
 #[tactic(auto, using(exp_golomb::proofs::Syntaxes::outcome_of_then), unfolding(exp_golomb::specs::Syntax::outcome_of, crate::specs::PictureParameterSet::pic_parameter_set))]

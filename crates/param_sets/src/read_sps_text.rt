@@ -74,8 +74,8 @@ fn read_head<B: BitSource>(alloc: Global, bits: &mut B) -> Result<Sps, SetFault>
     })
 }
 
-fn read_high<B: BitSource>(alloc: Global, bits: &mut B, sps: Sps) -> Result<Sps, SetFault>
-    ensures { Answers sps_says (λ x. x) result (B.left bits.new) (outcome_of (sps_high sps) (B.left bits.old)) }
+fn read_high<B: BitSource>(alloc: Global, bits: &mut B, sps: &mut Sps) -> Result<(), SetFault>
+    ensures { Answers sps_says (λ done. sps.new) result (B.left bits.new) (outcome_of (sps_high sps.old) (B.left bits.old)) }
 {
     let chroma_format_idc = ue(bits, u32::MAX - 1)?;
     if chroma_format_idc != 1 {
@@ -95,26 +95,22 @@ fn read_high<B: BitSource>(alloc: Global, bits: &mut B, sps: Sps) -> Result<Sps,
     }
     let seq_scaling_matrix_present_flag = flag(bits)?;
     let scaling_lists = read_scaling_matrix(alloc, bits, seq_scaling_matrix_present_flag, 8)?;
-    Ok(Sps {
-        chroma_format_idc,
-        bit_depth_luma_minus8,
-        bit_depth_chroma_minus8,
-        qpprime_y_zero_transform_bypass_flag,
-        seq_scaling_matrix_present_flag,
-        scaling_lists,
-        ..sps
-    })
+    sps.chroma_format_idc = chroma_format_idc;
+    sps.bit_depth_luma_minus8 = bit_depth_luma_minus8;
+    sps.bit_depth_chroma_minus8 = bit_depth_chroma_minus8;
+    sps.qpprime_y_zero_transform_bypass_flag = qpprime_y_zero_transform_bypass_flag;
+    sps.seq_scaling_matrix_present_flag = seq_scaling_matrix_present_flag;
+    sps.scaling_lists = scaling_lists;
+    Ok(())
 }
 
 #[tactic(auto, unfolding(exp_golomb::specs::Syntax::outcome_of, crate::specs::SequenceParameterSet::sps_order_lsb))]
-fn read_order_lsb<B: BitSource>(bits: &mut B, sps: Sps) -> Result<Sps, SetFault>
-    ensures { Answers sps_says (λ x. x) result (B.left bits.new) (outcome_of (sps_order_lsb sps) (B.left bits.old)) }
+fn read_order_lsb<B: BitSource>(bits: &mut B, sps: &mut Sps) -> Result<(), SetFault>
+    ensures { Answers sps_says (λ done. sps.new) result (B.left bits.new) (outcome_of (sps_order_lsb sps.old) (B.left bits.old)) }
 {
     let log2_max_pic_order_cnt_lsb_minus4 = ue(bits, 12)?;
-    Ok(Sps {
-        log2_max_pic_order_cnt_lsb_minus4,
-        ..sps
-    })
+    sps.log2_max_pic_order_cnt_lsb_minus4 = log2_max_pic_order_cnt_lsb_minus4;
+    Ok(())
 }
 
 fn read_offsets<B: BitSource>(
@@ -132,44 +128,43 @@ fn read_offsets<B: BitSource>(
     Ok(Elements::new(offsets))
 }
 
-fn read_order_cycle<B: BitSource>(alloc: Global, bits: &mut B, sps: Sps) -> Result<Sps, SetFault>
-    ensures { Answers sps_says (λ x. x) result (B.left bits.new) (outcome_of (sps_order_cycle sps) (B.left bits.old)) }
+fn read_order_cycle<B: BitSource>(
+    alloc: Global,
+    bits: &mut B,
+    sps: &mut Sps,
+) -> Result<(), SetFault>
+    ensures { Answers sps_says (λ done. sps.new) result (B.left bits.new) (outcome_of (sps_order_cycle sps.old) (B.left bits.old)) }
 {
     let delta_pic_order_always_zero_flag = flag(bits)?;
     let offset_for_non_ref_pic = se(bits, -i32::MAX, i32::MAX)?;
     let offset_for_top_to_bottom_field = se(bits, -i32::MAX, i32::MAX)?;
     let num_ref_frames_in_pic_order_cnt_cycle = ue(bits, 255)?;
     let offset_for_ref_frame = read_offsets(alloc, bits, num_ref_frames_in_pic_order_cnt_cycle)?;
-    Ok(Sps {
-        delta_pic_order_always_zero_flag,
-        offset_for_non_ref_pic,
-        offset_for_top_to_bottom_field,
-        num_ref_frames_in_pic_order_cnt_cycle,
-        offset_for_ref_frame,
-        ..sps
-    })
+    sps.delta_pic_order_always_zero_flag = delta_pic_order_always_zero_flag;
+    sps.offset_for_non_ref_pic = offset_for_non_ref_pic;
+    sps.offset_for_top_to_bottom_field = offset_for_top_to_bottom_field;
+    sps.num_ref_frames_in_pic_order_cnt_cycle = num_ref_frames_in_pic_order_cnt_cycle;
+    sps.offset_for_ref_frame = offset_for_ref_frame;
+    Ok(())
 }
 
 #[tactic(auto, using(exp_golomb::proofs::Syntaxes::outcome_of_then), unfolding(exp_golomb::specs::Syntax::outcome_of, crate::specs::SequenceParameterSet::sps_order, crate::specs::SequenceParameterSet::sps_order_of))]
-fn read_order<B: BitSource>(alloc: Global, bits: &mut B, sps: Sps) -> Result<Sps, SetFault>
-    ensures { Answers sps_says (λ x. x) result (B.left bits.new) (outcome_of (sps_order sps) (B.left bits.old)) }
+fn read_order<B: BitSource>(alloc: Global, bits: &mut B, sps: &mut Sps) -> Result<(), SetFault>
+    ensures { Answers sps_says (λ done. sps.new) result (B.left bits.new) (outcome_of (sps_order sps.old) (B.left bits.old)) }
 {
     let log2_max_frame_num_minus4 = ue(bits, 12)?;
     let pic_order_cnt_type = ue(bits, 2)?;
-    let sps = Sps {
-        log2_max_frame_num_minus4,
-        pic_order_cnt_type,
-        ..sps
-    };
+    sps.log2_max_frame_num_minus4 = log2_max_frame_num_minus4;
+    sps.pic_order_cnt_type = pic_order_cnt_type;
     match pic_order_cnt_type {
         0 => read_order_lsb(bits, sps),
         1 => read_order_cycle(alloc, bits, sps),
-        _ => Ok(sps),
+        _ => Ok(()),
     }
 }
 
-fn read_size<B: BitSource>(bits: &mut B, sps: Sps) -> Result<Sps, SetFault>
-    ensures { Answers sps_says (λ x. x) result (B.left bits.new) (outcome_of (sps_size sps) (B.left bits.old)) }
+fn read_size<B: BitSource>(bits: &mut B, sps: &mut Sps) -> Result<(), SetFault>
+    ensures { Answers sps_says (λ done. sps.new) result (B.left bits.new) (outcome_of (sps_size sps.old) (B.left bits.old)) }
 {
     let max_num_ref_frames = ue(bits, u32::MAX - 1)?;
     let gaps_in_frame_num_value_allowed_flag = flag(bits)?;
@@ -178,16 +173,14 @@ fn read_size<B: BitSource>(bits: &mut B, sps: Sps) -> Result<Sps, SetFault>
     let frame_mbs_only_flag = flag(bits)?;
     let mb_adaptive_frame_field_flag = flag_when(bits, !frame_mbs_only_flag)?;
     let direct_8x8_inference_flag = flag(bits)?;
-    Ok(Sps {
-        max_num_ref_frames,
-        gaps_in_frame_num_value_allowed_flag,
-        pic_width_in_mbs_minus1,
-        pic_height_in_map_units_minus1,
-        frame_mbs_only_flag,
-        mb_adaptive_frame_field_flag,
-        direct_8x8_inference_flag,
-        ..sps
-    })
+    sps.max_num_ref_frames = max_num_ref_frames;
+    sps.gaps_in_frame_num_value_allowed_flag = gaps_in_frame_num_value_allowed_flag;
+    sps.pic_width_in_mbs_minus1 = pic_width_in_mbs_minus1;
+    sps.pic_height_in_map_units_minus1 = pic_height_in_map_units_minus1;
+    sps.frame_mbs_only_flag = frame_mbs_only_flag;
+    sps.mb_adaptive_frame_field_flag = mb_adaptive_frame_field_flag;
+    sps.direct_8x8_inference_flag = direct_8x8_inference_flag;
+    Ok(())
 }
 
 /// Whether the picture is wider than 1055 macroblocks, or a frame has more than 139,264.
@@ -210,32 +203,34 @@ fn is_too_large(sps: &Sps) -> bool
 fn read_profile<B: BitSource>(alloc: Global, bits: &mut B) -> Result<Sps, SetFault>
     ensures { Answers sps_says (λ x. x) result (B.left bits.new) (outcome_of sps_profile (B.left bits.old)) }
 {
-    let head = read_head(alloc, bits)?;
-    if head.profile_idc == 100 {
-        return read_high(alloc, bits, head);
+    let mut sps = read_head(alloc, bits)?;
+    if sps.profile_idc == 100 {
+        read_high(alloc, bits, &mut sps)?;
     }
-    Ok(head)
+    Ok(sps)
 }
 
 #[tactic(auto, using(exp_golomb::proofs::Syntaxes::outcome_of_then), unfolding(exp_golomb::specs::Syntax::outcome_of, crate::specs::SequenceParameterSet::sps_fields))]
 fn read_fields<B: BitSource>(alloc: Global, bits: &mut B) -> Result<Sps, SetFault>
     ensures { Answers sps_says (λ x. x) result (B.left bits.new) (outcome_of sps_fields (B.left bits.old)) }
 {
-    let with_profile = read_profile(alloc, bits)?;
-    let with_order = read_order(alloc, bits, with_profile)?;
-    read_size(bits, with_order)
+    let mut sps = read_profile(alloc, bits)?;
+    read_order(alloc, bits, &mut sps)?;
+    read_size(bits, &mut sps)?;
+    Ok(sps)
 }
 
 #[tactic(auto, using(exp_golomb::proofs::Syntaxes::outcome_of_then), unfolding(exp_golomb::specs::Syntax::outcome_of, crate::specs::SequenceParameterSet::seq_parameter_set))]
 fn read_whole<B: BitSource>(alloc: Global, bits: &mut B) -> Result<Sps, SetFault>
     ensures { Answers sps_says (λ x. x) result [] (outcome_of seq_parameter_set (B.left bits.old)) }
 {
-    let sps = read_fields(alloc, bits)?;
+    let mut sps = read_fields(alloc, bits)?;
     let rest = read_unread_bits(alloc, bits)?;
     if is_too_large(&sps) {
         return Err(SetFault::Limit);
     }
-    Ok(Sps { rest, ..sps })
+    sps.rest = rest;
+    Ok(sps)
 }
 
 /// The sequence parameter set of a payload (7.3.2.1.1), which is the bytes behind the unit's header byte without their

@@ -10,10 +10,6 @@ use Rattle.std.specs.Prelude.{if◌then◌else◌}
 pub returns : goal.returns
 unfolding outcome_of pps_tail
 returns g c =
-    let pps = c.args.pps in
-    let qp : to_z w32 (of_z w32 pps.pic_init_qp_minus26) ≡ pps.pic_init_qp_minus26 = to_z-of_z w32 pps.pic_init_qp_minus26 (search rules) in
-    let qs : to_z w32 (of_z w32 pps.pic_init_qs_minus26) ≡ pps.pic_init_qs_minus26 = to_z-of_z w32 pps.pic_init_qs_minus26 (search rules) in
-    let offset : to_z w32 (of_z w32 pps.chroma_qp_index_offset) ≡ pps.chroma_qp_index_offset = to_z-of_z w32 pps.chroma_qp_index_offset (search rules) in
     let last = c.in_ok-second_chroma_qp_index_offset.second_chroma_qp_index_offset in
     let second : to_z w32 (of_z w32 last) ≡ last = to_z-of_z w32 last (search rules) in
     let count : c.if-transform_8x8_mode_flag.count ≡ (if c.in_ok-transform_8x8_mode_flag.transform_8x8_mode_flag then 8 else 6) =
@@ -21,4 +17,4 @@ returns g c =
       | then-transform_8x8_mode_flag w ↦ w.count-is ∙ rw w.if-transform_8x8_mode_flag.true refl
       | else-transform_8x8_mode_flag w ↦ w.count-is ∙ rw w.if-transform_8x8_mode_flag.false refl
     ] in
-    rw (qp, qs, offset, second, c.in_ok-transform_8x8_mode_flag.ensures, c.in_ok-pic_scaling_matrix_present_flag.ensures, outcome_of_then, ← count, c.in_ok-scaling_lists.ensures, c.in_ok-second_chroma_qp_index_offset.ensures) refl
+    rw (second, c.in_ok-transform_8x8_mode_flag.ensures, c.in_ok-pic_scaling_matrix_present_flag.ensures, outcome_of_then, ← count, c.in_ok-scaling_lists.ensures, c.in_ok-second_chroma_qp_index_offset.ensures) refl

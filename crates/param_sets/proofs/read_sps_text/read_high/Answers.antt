@@ -1,5 +1,4 @@
-use Rattle.std.proofs.Common.{◌≡◌, refl, rules, w32, to_z, of_z}
-use Rattle.std.proofs.lemmas.Int.{to_z-of_z}
+use Rattle.std.proofs.Common.{refl}
 use Rattle.param_sets.specs.Refusal.{sps_says}
 use Rattle.param_sets.specs.SequenceParameterSet.{sps_high}
 use Rattle.param_sets.proofs.Straight.{absent, done, ends, here, part_fails, part_reads, passes, passes_at, reads, refused, refused_at}
@@ -109,9 +108,6 @@ returns-in_err-scaling_lists g c =
 pub returns : goal.returns
 unfolding sps_high
 returns g c =
-    let first : to_z w32 (of_z w32 c.args.sps.offset_for_non_ref_pic) ≡ c.args.sps.offset_for_non_ref_pic = to_z-of_z w32 c.args.sps.offset_for_non_ref_pic (search rules) in
-    let second : to_z w32 (of_z w32 c.args.sps.offset_for_top_to_bottom_field) ≡ c.args.sps.offset_for_top_to_bottom_field = to_z-of_z w32 c.args.sps.offset_for_top_to_bottom_field (search rules) in
-    rw (first, second) (
     (reads c.in_ok-chroma_format_idc.ensures
     (passes_at _ _ c.if-chroma_format_idc-ne1.false
     (reads c.in_ok-bit_depth_luma_minus8.ensures
@@ -122,4 +118,4 @@ returns g c =
     (passes _ _ c.if-qpprime_y_zero_transform_bypass_flag.false
     (reads c.in_ok-seq_scaling_matrix_present_flag.ensures
     (part_reads _ _ _ c.in_ok-scaling_lists.ensures
-    done)))))))))).is)
+    done)))))))))).is

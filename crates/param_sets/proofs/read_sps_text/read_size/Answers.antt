@@ -1,5 +1,4 @@
-use Rattle.std.proofs.Common.{◌≡◌, refl, rules, w32, to_z, of_z}
-use Rattle.std.proofs.lemmas.Int.{to_z-of_z}
+use Rattle.std.proofs.Common.{refl}
 use Rattle.param_sets.specs.Refusal.{sps_says}
 use Rattle.param_sets.specs.SequenceParameterSet.{sps_size}
 use Rattle.param_sets.proofs.Straight.{absent, done, ends, here, part_fails, part_reads, reads}
@@ -71,9 +70,6 @@ returns-in_err-direct_8x8_inference_flag g c =
 pub returns : goal.returns
 unfolding sps_size
 returns g c =
-    let first : to_z w32 (of_z w32 c.args.sps.offset_for_non_ref_pic) ≡ c.args.sps.offset_for_non_ref_pic = to_z-of_z w32 c.args.sps.offset_for_non_ref_pic (search rules) in
-    let second : to_z w32 (of_z w32 c.args.sps.offset_for_top_to_bottom_field) ≡ c.args.sps.offset_for_top_to_bottom_field = to_z-of_z w32 c.args.sps.offset_for_top_to_bottom_field (search rules) in
-    rw (first, second) (
     (reads c.in_ok-max_num_ref_frames.ensures
     (reads c.in_ok-gaps_in_frame_num_value_allowed_flag.ensures
     (reads c.in_ok-pic_width_in_mbs_minus1.ensures
@@ -81,4 +77,4 @@ returns g c =
     (reads c.in_ok-frame_mbs_only_flag.ensures
     (part_reads _ _ _ c.in_ok-mb_adaptive_frame_field_flag.ensures
     (reads c.in_ok-direct_8x8_inference_flag.ensures
-    done))))))).is)
+    done))))))).is
