@@ -12,24 +12,8 @@ use std::test::Fail;
 fn text_of(alloc: Global, level: u16, bound: u8) -> Result<Option<Vec<u8>>, Fail>
     requires { bound ≤ 20 }
 {
-    let levels = [
-        i32::from(level),
-        0,
-        0,
-        0,
-        0,
-        0,
-        0,
-        0,
-        0,
-        0,
-        0,
-        0,
-        0,
-        0,
-        0,
-        0,
-    ];
+    let mut levels = [0; 16];
+    levels[0] = i32::from(level);
     let mut bits = BitVec::new(alloc);
     match write_levels(&mut bits, 0, &levels, bound) {
         Ok(()) => {}
@@ -47,57 +31,72 @@ fn text_of(alloc: Global, level: u16, bound: u8) -> Result<Option<Vec<u8>>, Fail
     Ok(None)
 }
 
-/// The greatest level of level_prefix 15, and the first one of level_prefix 16.
+/// The greatest level of level_prefix 15, and the first one of level_prefix 16, which is refused where 15 is the bound.
+static ESCAPES: [(u16, u8, &[u8]); 3] = [
+    (2064, 15, &[0x14, 0x00, 0x07, 0xff, 0xa0]),
+    (2065, 15, &[]),
+    (2065, 20, &[0x14, 0x00, 0x02, 0x00, 0x08]),
+];
+
 #[test]
 fn levels_at_the_end_of_the_escape(rt: HostRuntime) -> Result<(), Fail> {
-    let rows: [(u16, u8, Option<[u8; 5]>); 3] = [
-        (2064, 15, Some([0x14, 0x00, 0x07, 0xff, 0xa0])),
-        (2065, 15, None),
-        (2065, 20, Some([0x14, 0x00, 0x02, 0x00, 0x08])),
-    ];
-    for (level, bound, wanted) in rows {
-        assert!(rt; bound <= 20);
-        let text = text_of(rt.alloc(), level, bound)?;
-        let text = text.as_ref().map(|text| text.as_slice());
-        assert_eq!(rt; text, wanted.as_ref().map(|wanted| wanted.as_slice()));
+    for (level, bound, wanted) in &ESCAPES {
+        assert!(rt; *bound <= 20);
+        match text_of(rt.alloc(), *level, *bound)? {
+            Some(text) => assert!(rt; text.as_slice() == *wanted),
+            None => assert!(rt; wanted.is_empty()),
+        }
     }
     Ok(())
 }
 
+/// A text of nC 0 is that of these levels.
+fn is_text(text: &[u8], total: u8, levels: &[i32; 16]) -> bool {
+    let mut read = [7; 16];
+    let answer = read_levels(&mut SliceBits::new(text), 0, &mut read, 15);
+    if answer != Some(total) || read != *levels {
+        return false;
+    }
+    match read_block(&mut SliceBits::new(text), 0, 16, 15) {
+        Some(block) => block.as_slice() == levels.as_slice(),
+        None => false,
+    }
+}
+
+/// The bytes of a text of nC 0, TotalCoeff, and the levels.
+static TEXTS: [(&[u8], u8, [i32; 16]); 4] = [
+    (
+        &[0x08, 0xe5, 0xed],
+        5,
+        [0, 3, 0, 1, -1, -1, 0, 1, 0, 0, 0, 0, 0, 0, 0, 0],
+    ),
+    (
+        &[0x01, 0xa2, 0x42, 0xe6, 0x00],
+        5,
+        [-2, 4, 3, -3, 0, 0, -1, 0, 0, 0, 0, 0, 0, 0, 0, 0],
+    ),
+    (
+        &[0x1c, 0x72],
+        3,
+        [0, 0, 0, 1, 0, 1, 0, 0, 0, -1, 0, 0, 0, 0, 0, 0],
+    ),
+    (
+        &[0x14, 0x00, 0x07, 0xff, 0xa0],
+        1,
+        [2064, 0, 0, 0, 0, 0, 0, 0, 0, 0, 0, 0, 0, 0, 0, 0],
+    ),
+];
+
 #[test]
 fn texts_are_read(rt: HostRuntime) {
-    // the bytes of a text of nC 0, TotalCoeff, and the levels
-    let rows: [(&[u8], u8, [i32; 16]); 4] = [
-        (
-            &[0x08, 0xe5, 0xed],
-            5,
-            [0, 3, 0, 1, -1, -1, 0, 1, 0, 0, 0, 0, 0, 0, 0, 0],
-        ),
-        (
-            &[0x01, 0xa2, 0x42, 0xe6, 0x00],
-            5,
-            [-2, 4, 3, -3, 0, 0, -1, 0, 0, 0, 0, 0, 0, 0, 0, 0],
-        ),
-        (
-            &[0x1c, 0x72],
-            3,
-            [0, 0, 0, 1, 0, 1, 0, 0, 0, -1, 0, 0, 0, 0, 0, 0],
-        ),
-        (
-            &[0x14, 0x00, 0x07, 0xff, 0xa0],
-            1,
-            [2064, 0, 0, 0, 0, 0, 0, 0, 0, 0, 0, 0, 0, 0, 0, 0],
-        ),
-    ];
-    for (text, total, levels) in rows {
-        let mut read = [7; 16];
-        let answer = read_levels(&mut SliceBits::new(text), 0, &mut read, 15);
-        assert_eq!(rt; answer, Some(total));
-        assert_eq!(rt; read, levels);
-        let block = read_block(&mut SliceBits::new(text), 0, 16, 15);
-        assert!(rt; block.is_some_and(|block| block.as_slice() == levels.as_slice()));
+    for (text, total, levels) in &TEXTS {
+        assert!(rt; is_text(text, *total, levels));
     }
-    // a level_prefix of 16, and a text that is cut short
+}
+
+/// A level_prefix of 16, and a text that is cut short.
+#[test]
+fn texts_are_refused(rt: HostRuntime) {
     let beyond = [0x14, 0x00, 0x02, 0x00, 0x08];
     assert!(rt; read_block(&mut SliceBits::new(&beyond), 0, 16, 15).is_none());
     assert!(rt; read_block(&mut SliceBits::new(&beyond), 0, 16, 20).is_some());

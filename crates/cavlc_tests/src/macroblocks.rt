@@ -61,90 +61,89 @@ fn read_and_written(
     Ok(Vec::new(alloc))
 }
 
+/// The slice, direct_8x8_inference_flag, the bits with those that are read, and the type.
+static TEXTS: [(SliceKind, bool, &[u8], &[u8], MbKind); 11] = [
+    // I_16x16 with mode 2 and a DC level, in I; without levels in P and in B
+    (
+        SliceKind::I,
+        false,
+        &[0x26, 0xa0],
+        &[0x26, 0xa0],
+        MbKind::Intra(3),
+    ),
+    (
+        SliceKind::P,
+        false,
+        &[0x13, 0xc0],
+        &[0x13, 0xc0],
+        MbKind::Intra(3),
+    ),
+    (
+        SliceKind::B,
+        false,
+        &[0x0d, 0xf0],
+        &[0x0d, 0xf0],
+        MbKind::Intra(3),
+    ),
+    // I_NxN with the 8x8 transform and no levels
+    (
+        SliceKind::I,
+        false,
+        &[0xe7, 0xc8],
+        &[0xe7, 0xc8],
+        MbKind::Intra(0),
+    ),
+    // P_L0_16x16, P_8x8 with the indices 0, 1, 0, 0, and P_8x8ref0, all with zero vectors
+    (SliceKind::P, false, &[0xf8], &[0xf8], MbKind::P(0)),
+    (
+        SliceKind::P,
+        false,
+        &[0x27, 0xdf, 0xfc],
+        &[0x27, 0xdf, 0xfc],
+        MbKind::P(3),
+    ),
+    (
+        SliceKind::P,
+        false,
+        &[0x2f, 0xff, 0xc0],
+        &[0x2f, 0xff, 0xc0],
+        MbKind::P(3),
+    ),
+    // B_Bi_16x16 with the indices 1 and 0, and the vector differences (1, 0) and (0, -1)
+    (
+        SliceKind::B,
+        true,
+        &[0x22, 0xb7],
+        &[0x22, 0xb7],
+        MbKind::B(3),
+    ),
+    // B_Direct_16x16 with luma pattern 1: the transform's flag is sent with direct_8x8_inference_flag alone
+    (
+        SliceKind::B,
+        true,
+        &[0xbf, 0xc0],
+        &[0xbf, 0xc0],
+        MbKind::B(0),
+    ),
+    (
+        SliceKind::B,
+        false,
+        &[0xbf, 0xc0],
+        &[0xbf, 0x80],
+        MbKind::B(0),
+    ),
+    // the bits end in the modes
+    (SliceKind::I, false, &[0xbf], &[], MbKind::Intra(0)),
+];
+
 #[test]
 fn texts_of_macroblocks(rt: HostRuntime) -> Result<(), Fail> {
-    // the slice, direct_8x8_inference_flag, the bits with those that are read, and the type
-    let rows: [(SliceKind, bool, &[u8], &[u8], MbKind); 11] = [
-        // I_16x16 with mode 2 and a DC level, in I; without levels in P and in B
-        (
-            SliceKind::I,
-            false,
-            &[0x26, 0xa0],
-            &[0x26, 0xa0],
-            MbKind::Intra(3),
-        ),
-        (
-            SliceKind::P,
-            false,
-            &[0x13, 0xc0],
-            &[0x13, 0xc0],
-            MbKind::Intra(3),
-        ),
-        (
-            SliceKind::B,
-            false,
-            &[0x0d, 0xf0],
-            &[0x0d, 0xf0],
-            MbKind::Intra(3),
-        ),
-        // I_NxN with the 8x8 transform and no levels
-        (
-            SliceKind::I,
-            false,
-            &[0xe7, 0xc8],
-            &[0xe7, 0xc8],
-            MbKind::Intra(0),
-        ),
-        // P_L0_16x16, P_8x8 with the indices 0, 1, 0, 0, and P_8x8ref0, all with zero vectors
-        (SliceKind::P, false, &[0xf8], &[0xf8], MbKind::P(0)),
-        (
-            SliceKind::P,
-            false,
-            &[0x27, 0xdf, 0xfc],
-            &[0x27, 0xdf, 0xfc],
-            MbKind::P(3),
-        ),
-        (
-            SliceKind::P,
-            false,
-            &[0x2f, 0xff, 0xc0],
-            &[0x2f, 0xff, 0xc0],
-            MbKind::P(3),
-        ),
-        // B_Bi_16x16 with the indices 1 and 0, and the vector differences (1, 0) and (0, -1)
-        (
-            SliceKind::B,
-            true,
-            &[0x22, 0xb7],
-            &[0x22, 0xb7],
-            MbKind::B(3),
-        ),
-        // B_Direct_16x16 with luma pattern 1: the transform's flag is sent with direct_8x8_inference_flag alone
-        (
-            SliceKind::B,
-            true,
-            &[0xbf, 0xc0],
-            &[0xbf, 0xc0],
-            MbKind::B(0),
-        ),
-        (
-            SliceKind::B,
-            false,
-            &[0xbf, 0xc0],
-            &[0xbf, 0x80],
-            MbKind::B(0),
-        ),
-        // the bits end in the modes
-        (SliceKind::I, false, &[0xbf], &[], MbKind::Intra(0)),
-    ];
-    for (slice, direct8, bytes, text, kind) in rows {
+    for (slice, direct8, bytes, text, kind) in &TEXTS {
         let mut mb = Mb::without_elements(MbKind::Intra(0));
-        let shape = shape_of(slice, direct8);
+        let shape = shape_of(*slice, *direct8);
         let written = read_and_written(rt.alloc(), &shape, &ALONE, bytes, &mut mb)?;
-        assert_eq!(rt; written.as_slice(), text);
-        if !text.is_empty() {
-            assert_eq!(rt; mb.kind, kind);
-        }
+        assert!(rt; written.as_slice() == *text);
+        assert!(rt; text.is_empty() || mb.kind == *kind);
     }
     Ok(())
 }
@@ -170,7 +169,6 @@ fn elements_of_i_nxn(rt: HostRuntime) -> Result<(), Fail> {
     let mut mb = Mb::without_elements(MbKind::Skip);
     let bytes = [0x8f, 0xff, 0xfa, 0x0f, 0x39, 0xe0];
     let text = read_and_written(rt.alloc(), &shape, &around, &bytes, &mut mb)?;
-    assert_eq!(rt; text.as_slice(), bytes.as_slice());
-    assert_eq!(rt; mb, wanted);
+    assert!(rt; text.as_slice() == bytes.as_slice() && mb == wanted);
     Ok(())
 }

@@ -1,96 +1,103 @@
 //! The neighbours in MBAFF by Table 6-4, and the pair flags that are inferred (7.4.4).
-use crate::spots::{is_place, shape, skipped, spot};
+use crate::spots::{is_place, is_spot, shape, skipped};
 use h264_types::slice_order::inferred_field;
 use mb_neighbours::{At, above, left};
 
 /// The second and the third pair of a row, after frame or field pairs: the flag of the current pair, those of the first and of
 /// the second, the macroblock and its place, and what is to the left of it. The last rows are of a frame pair after a skipped
 /// one, which has the flag of the field pair before it.
+static LEFT: [(bool, bool, bool, u32, At, u32, u8); 16] = [
+    (false, false, false, 2, At::Luma4(10), 0, 15),
+    (false, false, false, 3, At::Luma4(10), 1, 15),
+    (false, true, false, 2, At::Luma4(2), 0, 5),
+    (false, true, false, 2, At::Luma4(8), 0, 7),
+    (false, true, false, 3, At::Luma4(0), 0, 13),
+    (false, true, false, 3, At::Chroma4(0), 0, 3),
+    (true, false, false, 2, At::Luma4(2), 0, 13),
+    (true, false, false, 2, At::Luma4(8), 1, 5),
+    (true, false, false, 3, At::Luma8(2), 1, 1),
+    (true, false, false, 3, At::Whole, 0, 0),
+    (true, true, false, 2, At::Luma4(8), 0, 13),
+    (true, true, false, 3, At::Whole, 1, 0),
+    (true, true, false, 3, At::Chroma4(1), 3, 0),
+    (false, true, true, 4, At::Luma4(2), 2, 5),
+    (false, true, true, 5, At::Luma4(2), 2, 13),
+    (false, true, true, 5, At::Chroma4(2), 2, 3),
+];
+
 #[test]
 fn blocks_beside_the_left_pair(rt: HostRuntime) {
     let shape = shape(3, 0, true);
-    for (field, first, second, at, place, mb, block) in [
-        (false, false, false, 2, At::Luma4(10), 0, 15),
-        (false, false, false, 3, At::Luma4(10), 1, 15),
-        (false, true, false, 2, At::Luma4(2), 0, 5),
-        (false, true, false, 2, At::Luma4(8), 0, 7),
-        (false, true, false, 3, At::Luma4(0), 0, 13),
-        (false, true, false, 3, At::Chroma4(0), 0, 3),
-        (true, false, false, 2, At::Luma4(2), 0, 13),
-        (true, false, false, 2, At::Luma4(8), 1, 5),
-        (true, false, false, 3, At::Luma8(2), 1, 1),
-        (true, false, false, 3, At::Whole, 0, 0),
-        (true, true, false, 2, At::Luma4(8), 0, 13),
-        (true, true, false, 3, At::Whole, 1, 0),
-        (true, true, false, 3, At::Chroma4(1), 3, 0),
-        (false, true, true, 4, At::Luma4(2), 2, 5),
-        (false, true, true, 5, At::Luma4(2), 2, 13),
-        (false, true, true, 5, At::Chroma4(2), 2, 3),
-    ] {
-        assert!(rt; at < 6 && is_place(place));
-        let (first_mb, second_mb) = (skipped(first), skipped(second));
+    for (field, first, second, at, place, mb, block) in &LEFT {
+        assert!(rt; *at < 6 && is_place(*place));
+        let (first_mb, second_mb) = (skipped(*first), skipped(*second));
         let done = [first_mb, first_mb, second_mb, second_mb];
-        assert_eq!(rt;
-            left(&shape, &done, at, field, place),
-            spot(mb, block),
+        let found = left(&shape, &done, *at, *field, *place);
+        assert!(rt;
+            is_spot(found, Some(*mb), *block),
             "{field} {first} {second} {at} {place:?}"
         );
     }
 }
 
-/// The pair below a frame or a field pair, by its macroblocks 2 and 3.
+/// The pair below a frame or a field pair: its flag, that of the pair above, its macroblock 2 or 3, and the one above that.
+static ABOVE: [(bool, bool, u32, u32); 8] = [
+    (false, false, 2, 1),
+    (false, true, 2, 1),
+    (false, false, 3, 2),
+    (false, true, 3, 2),
+    (true, false, 2, 1),
+    (true, true, 2, 0),
+    (true, false, 3, 1),
+    (true, true, 3, 1),
+];
+
+/// A place, and the block above it.
+static BLOCKS_ABOVE: [(At, u8); 4] = [
+    (At::Luma4(5), 15),
+    (At::Luma8(0), 2),
+    (At::Chroma4(1), 3),
+    (At::Whole, 0),
+];
+
 #[test]
 fn blocks_below_the_pair_above(rt: HostRuntime) {
     let shape = shape(1, 0, true);
-    for (field, above_field, at, mb) in [
-        (false, false, 2, 1),
-        (false, true, 2, 1),
-        (false, false, 3, 2),
-        (false, true, 3, 2),
-        (true, false, 2, 1),
-        (true, true, 2, 0),
-        (true, false, 3, 1),
-        (true, true, 3, 1),
-    ] {
-        assert!(rt; at < 4);
-        for (place, block) in [
-            (At::Luma4(5), 15),
-            (At::Luma8(0), 2),
-            (At::Chroma4(1), 3),
-            (At::Whole, 0),
-        ] {
-            assert!(rt; is_place(place));
-            let found = above(&shape, &[skipped(above_field); 2], at, field, place);
-            assert_eq!(rt;
-                found,
-                spot(mb, block),
+    for (field, above_field, at, mb) in &ABOVE {
+        assert!(rt; *at < 4);
+        for (place, block) in &BLOCKS_ABOVE {
+            assert!(rt; is_place(*place));
+            let found = above(&shape, &[skipped(*above_field); 2], *at, *field, *place);
+            assert!(rt;
+                is_spot(found, Some(*mb), *block),
                 "{field} {above_field} {at} {place:?}"
             );
         }
     }
 }
 
-/// In rows of two pairs: the flags of the pairs before, and the flag of a pair that is skipped.
+/// In rows of two pairs: the flags of the pairs before, the pair that is skipped, and its flag.
+static INFERRED: [([bool; 3], usize, bool); 5] = [
+    // a field pair to the left and a frame pair above; the other way round
+    ([false, false, true], 3, true),
+    ([true, true, false], 3, false),
+    // no pair to the left, and a field pair above; a frame pair above
+    ([true, false, false], 2, true),
+    ([false, true, true], 2, false),
+    // neither
+    ([true, true, true], 0, false),
+];
+
 #[test]
 fn flags_of_skipped_pairs(rt: HostRuntime) {
     let shape = shape(2, 0, true);
-    for (flags, pair, wanted) in [
-        // a field pair to the left and a frame pair above; the other way round
-        ([false, false, true], 3, true),
-        ([true, true, false], 3, false),
-        // no pair to the left, and a field pair above; a frame pair above
-        ([true, false, false], 2, true),
-        ([false, true, true], 2, false),
-        // neither
-        ([true, true, true], 0, false),
-    ] {
-        let [first, second, third] = flags;
+    for (flags, pair, wanted) in &INFERRED {
+        let [first, second, third] = *flags;
         let (first, second, third) = (skipped(first), skipped(second), skipped(third));
         let done = [first, first, second, second, third, third];
-        assert!(rt; pair <= 3);
-        assert_eq!(rt;
-            inferred_field(&shape, &done, pair),
-            wanted,
+        assert!(rt; *pair <= 3);
+        assert!(rt;
+            inferred_field(&shape, &done, *pair) == *wanted,
             "{flags:?} {pair}"
         );
     }

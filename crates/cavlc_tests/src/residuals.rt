@@ -46,57 +46,72 @@ fn i_nxn(t8: bool, luma: u8, levels: &[(u8, i32)]) -> Mb {
     mb
 }
 
+const NOTHING: Sides = Sides {
+    left: None,
+    above: None,
+};
+
+const ALONE: Around = Around {
+    luma: NOTHING,
+    cb: NOTHING,
+    cr: NOTHING,
+};
+
+/// nC is 3 for block 0, 1 for its neighbours.
+const BESIDE: Around = Around {
+    luma: Sides {
+        left: Some([2, 0, 0, 0]),
+        above: Some([4, 0, 0, 0]),
+    },
+    cb: NOTHING,
+    cr: NOTHING,
+};
+
+/// All blocks of I_16x16 are sent, and Cr has the DC level -1.
 #[test]
-fn residuals_of_macroblocks(rt: HostRuntime) -> Result<(), Fail> {
-    let nothing = Sides {
-        left: None,
-        above: None,
-    };
-    let alone = Around {
-        luma: nothing,
-        cb: nothing,
-        cr: nothing,
-    };
-    // all blocks of I_16x16 are sent, and Cr has the DC level -1
-    let kind = MbKind::Intra(21);
-    let mut large = Mb::without_elements(kind);
-    large.chroma_dc[1][0] = -1;
-    let rows: [(Mb, &[u8], Mb); 5] = [
-        (Mb::without_elements(kind), &[0xff, 0xff, 0xbf, 0xfc], large),
-        // a quarter whose levels are all 0, with either transform
-        (i_nxn(true, 2, &[]), &[0xf0], i_nxn(true, 2, &[])),
-        (i_nxn(false, 2, &[]), &[0xf0], i_nxn(false, 2, &[])),
-        // list 0 has level 1 at place 1, list 1 level 1 at place 0, list 2 level -1 at place 3, and list 3 none: with the
-        // 8x8 transform they take turns
-        (
-            i_nxn(true, 1, &[]),
-            &[0x4d, 0x59, 0xc0],
-            i_nxn(true, 1, &[(1, 1), (4, 1), (14, -1)]),
-        ),
-        (
-            i_nxn(false, 1, &[]),
-            &[0x4d, 0x59, 0xc0],
-            i_nxn(false, 1, &[(1, 1), (16, 1), (35, -1)]),
-        ),
-    ];
-    for (before, bytes, after) in rows {
-        let mut mb = before;
-        let text = read_and_written(rt.alloc(), &alone, bytes, &mut mb)?;
-        assert_eq!(rt; text.as_slice(), bytes);
-        assert_eq!(rt; mb, after);
+fn residual_of_i_16x16(rt: HostRuntime) -> Result<(), Fail> {
+    let mut mb = Mb::without_elements(MbKind::Intra(21));
+    let mut wanted = mb;
+    wanted.chroma_dc[1][0] = -1;
+    let bytes = [0xff, 0xff, 0xbf, 0xfc];
+    let text = read_and_written(rt.alloc(), &ALONE, &bytes, &mut mb)?;
+    assert!(rt; text.as_slice() == bytes.as_slice() && mb == wanted);
+    Ok(())
+}
+
+/// Whether block 0 has neighbours, whether the 8x8 transform is used, the luma pattern, the bytes, and the levels of quarter 0:
+/// a quarter whose levels are all 0, with either transform; list 0 has level 1 at place 1, list 1 level 1 at place 0, list 2
+/// level -1 at place 3, and list 3 none, which with the 8x8 transform take turns; and a block with neighbours.
+static RESIDUALS: [(bool, bool, u8, &[u8], &[(u8, i32)]); 5] = [
+    (false, true, 2, &[0xf0], &[]),
+    (false, false, 2, &[0xf0], &[]),
+    (
+        false,
+        true,
+        1,
+        &[0x4d, 0x59, 0xc0],
+        &[(1, 1), (4, 1), (14, -1)],
+    ),
+    (
+        false,
+        false,
+        1,
+        &[0x4d, 0x59, 0xc0],
+        &[(1, 1), (16, 1), (35, -1)],
+    ),
+    (true, false, 1, &[0x9e], &[(0, 1)]),
+];
+
+#[test]
+fn residuals_of_i_nxn(rt: HostRuntime) -> Result<(), Fail> {
+    for (beside, t8, luma, bytes, levels) in &RESIDUALS {
+        let mut mb = i_nxn(*t8, *luma, &[]);
+        let text = if *beside {
+            read_and_written(rt.alloc(), &BESIDE, bytes, &mut mb)?
+        } else {
+            read_and_written(rt.alloc(), &ALONE, bytes, &mut mb)?
+        };
+        assert!(rt; text.as_slice() == *bytes && mb == i_nxn(*t8, *luma, levels));
     }
-    // nC is 3 for block 0, 1 for its neighbours
-    let beside = Around {
-        luma: Sides {
-            left: Some([2, 0, 0, 0]),
-            above: Some([4, 0, 0, 0]),
-        },
-        cb: nothing,
-        cr: nothing,
-    };
-    let mut mb = i_nxn(false, 1, &[]);
-    let text = read_and_written(rt.alloc(), &beside, &[0x9e], &mut mb)?;
-    assert_eq!(rt; text.as_slice(), [0x9e].as_slice());
-    assert_eq!(rt; mb, i_nxn(false, 1, &[(0, 1)]));
     Ok(())
 }

@@ -1,5 +1,5 @@
 //! The data of slices in CAVLC (7.3.4): how many macroblocks are read, and where there is no reading.
-ghost use Rattle.std.specs.Prelude.{◌≡◌, ◌≤◌};
+ghost use Rattle.std.specs.Prelude.{IsTrue};
 ghost use Rattle.cavlc_syntax.specs.SliceText.{IsBuiltShape};
 
 use cavlc_syntax::{CavlcReader, SliceFault, Step};
@@ -9,11 +9,7 @@ use std::alloc::Global;
 use std::test::Fail;
 
 /// A slice of this kind that begins a picture, with one reference of each list.
-fn shape_of(kind: SliceKind, width: u32, height: u32) -> SliceShape
-    requires some { (1 ≤ width) × (1 ≤ height) }
-    requires few { (width ≤ 11) × (height ≤ 9) }
-    ensures { IsBuiltShape result }
-{
+fn shape_of(kind: SliceKind, width: u32, height: u32) -> SliceShape {
     SliceShape {
         kind,
         width,
@@ -28,6 +24,13 @@ fn shape_of(kind: SliceKind, width: u32, height: u32) -> SliceShape
         qp: 26,
         column: 0,
     }
+}
+
+/// The shape is that of a slice outside MBAFF.
+fn is_built(shape: &SliceShape) -> bool
+    ensures { IsTrue result → IsBuiltShape shape.now }
+{
+    shape.is_shape() && !shape.mbaff
 }
 
 /// Each byte so many times.
@@ -64,132 +67,135 @@ fn read(
     Ok((100, skipped, None))
 }
 
+const NO_READING: Option<SliceFault> = Some(SliceFault::NoReading);
+
+/// The picture, the bytes, how many macroblocks and skipped ones are read, and the refusal.
+static RUNS: [(SliceKind, u32, u32, &[u8], u8, u8, Option<SliceFault>); 14] = [
+    // mb_skip_run 1, and the end
+    (SliceKind::P, 1, 1, &[0x50], 1, 1, None),
+    (SliceKind::B, 2, 1, &[0x70], 2, 2, None),
+    (SliceKind::P, 11, 9, &[0x03, 0x24], 99, 99, None),
+    // more than the picture has room for, at the beginning and behind two macroblocks
+    (SliceKind::P, 1, 1, &[0x70], 0, 0, NO_READING),
+    (SliceKind::P, 11, 9, &[0x03, 0x2C], 0, 0, NO_READING),
+    (SliceKind::P, 2, 1, &[0x5E, 0xA0], 2, 1, NO_READING),
+    // P_L0_16x16 without levels; behind it mb_skip_run 0, and the end
+    (SliceKind::P, 1, 1, &[0xFC], 1, 0, None),
+    (SliceKind::P, 1, 1, &[0xC0], 0, 0, NO_READING),
+    (SliceKind::P, 2, 1, &[0xFE], 1, 0, NO_READING),
+    // no stop bit, no bit, and bytes behind the stop bit
+    (SliceKind::P, 1, 1, &[0x40], 1, 1, NO_READING),
+    (SliceKind::P, 1, 1, &[], 0, 0, NO_READING),
+    (SliceKind::P, 1, 1, &[0x50, 0], 1, 1, NO_READING),
+    // B_Direct_16x16 and B_Skip
+    (SliceKind::B, 2, 1, &[0xEA], 2, 1, None),
+    // a skipped one above a macroblock counts nothing, whatever stands above it
+    (
+        SliceKind::P,
+        1,
+        3,
+        &[0xF2, 0xF1, 0x85, 0xD7, 0x7F, 0x80],
+        3,
+        1,
+        None,
+    ),
+];
+
 #[test]
 fn runs_of_skipped_macroblocks(rt: HostRuntime) -> Result<(), Fail> {
-    let none = None;
-    let no_reading = Some(SliceFault::NoReading);
-    // the picture, the bytes, how many macroblocks and skipped ones are read, and the refusal
-    let rows: [(SliceKind, u32, u32, &[u8], u8, u8, Option<SliceFault>); 14] = [
-        // mb_skip_run 1, and the end
-        (SliceKind::P, 1, 1, &[0x50], 1, 1, none),
-        (SliceKind::B, 2, 1, &[0x70], 2, 2, none),
-        (SliceKind::P, 11, 9, &[0x03, 0x24], 99, 99, none),
-        // more than the picture has room for, at the beginning and behind two macroblocks
-        (SliceKind::P, 1, 1, &[0x70], 0, 0, no_reading),
-        (SliceKind::P, 11, 9, &[0x03, 0x2C], 0, 0, no_reading),
-        (SliceKind::P, 2, 1, &[0x5E, 0xA0], 2, 1, no_reading),
-        // P_L0_16x16 without levels; behind it mb_skip_run 0, and the end
-        (SliceKind::P, 1, 1, &[0xFC], 1, 0, none),
-        (SliceKind::P, 1, 1, &[0xC0], 0, 0, no_reading),
-        (SliceKind::P, 2, 1, &[0xFE], 1, 0, no_reading),
-        // no stop bit, no bit, and bytes behind the stop bit
-        (SliceKind::P, 1, 1, &[0x40], 1, 1, no_reading),
-        (SliceKind::P, 1, 1, &[], 0, 0, no_reading),
-        (SliceKind::P, 1, 1, &[0x50, 0], 1, 1, no_reading),
-        // B_Direct_16x16 and B_Skip
-        (SliceKind::B, 2, 1, &[0xEA], 2, 1, none),
-        // a skipped one above a macroblock counts nothing, whatever stands above it
-        (
-            SliceKind::P,
-            1,
-            3,
-            &[0xF2, 0xF1, 0x85, 0xD7, 0x7F, 0x80],
-            3,
-            1,
-            none,
-        ),
-    ];
-    for (kind, width, height, bytes, count, skipped, fault) in rows {
-        let shape = shape_of(kind, width, height);
+    for (kind, width, height, bytes, count, skipped, fault) in &RUNS {
+        let shape = shape_of(*kind, *width, *height);
+        assert!(rt; is_built(&shape));
         let answer = read(rt.alloc(), shape, SliceBits::new(bytes))?;
-        assert_eq!(rt; answer, (count, skipped, fault));
+        assert!(rt; answer == (*count, *skipped, *fault), "{bytes:?}");
     }
     Ok(())
 }
 
+/// The width, the bits before the data, the bytes, how many macroblocks are read, and the refusal.
+static SAMPLES: [(u32, u8, &[(u16, u8)], u8, Option<SliceFault>); 8] = [
+    // a header of 17 bits; its samples are 00 00 00 and 80
+    (
+        1,
+        17,
+        &[
+            (1, 0x88),
+            (1, 0x84),
+            (1, 0x86),
+            (1, 0x80),
+            (3, 0),
+            (382, 0x80),
+        ],
+        1,
+        None,
+    ),
+    (
+        2,
+        0,
+        &[
+            (1, 0x0D),
+            (1, 0),
+            (384, 0x80),
+            (1, 0x0D),
+            (1, 0),
+            (384, 0),
+            (1, 0x80),
+        ],
+        2,
+        None,
+    ),
+    // more than the picture has room for
+    (
+        1,
+        0,
+        &[
+            (1, 0x0D),
+            (1, 0),
+            (384, 1),
+            (1, 0x0D),
+            (1, 0),
+            (384, 2),
+            (1, 0x80),
+        ],
+        1,
+        NO_READING,
+    ),
+    // cut; without a stop bit; with bits behind it; an alignment bit of 1; mb_type 26
+    (1, 0, &[(1, 0x0D), (1, 0), (383, 0x80)], 0, NO_READING),
+    (1, 0, &[(1, 0x0D), (1, 0), (384, 0x80)], 1, NO_READING),
+    (
+        1,
+        0,
+        &[(1, 0x0D), (1, 0), (384, 0x80), (1, 0x81)],
+        1,
+        NO_READING,
+    ),
+    (
+        1,
+        0,
+        &[(1, 0x0D), (1, 0x40), (384, 0x80), (1, 0x80)],
+        0,
+        NO_READING,
+    ),
+    (
+        1,
+        0,
+        &[(1, 0x0D), (1, 0x80), (384, 0x80), (1, 0x80)],
+        0,
+        NO_READING,
+    ),
+];
+
 #[test]
 fn slices_with_samples(rt: HostRuntime) -> Result<(), Fail> {
-    let none = None;
-    let no_reading = Some(SliceFault::NoReading);
-    // the width, the bits before the data, the bytes, how many macroblocks are read, and the refusal
-    let rows: [(u32, u8, &[(u16, u8)], u8, Option<SliceFault>); 8] = [
-        // a header of 17 bits; its samples are 00 00 00 and 80
-        (
-            1,
-            17,
-            &[
-                (1, 0x88),
-                (1, 0x84),
-                (1, 0x86),
-                (1, 0x80),
-                (3, 0),
-                (382, 0x80),
-            ],
-            1,
-            none,
-        ),
-        (
-            2,
-            0,
-            &[
-                (1, 0x0D),
-                (1, 0),
-                (384, 0x80),
-                (1, 0x0D),
-                (1, 0),
-                (384, 0),
-                (1, 0x80),
-            ],
-            2,
-            none,
-        ),
-        // more than the picture has room for
-        (
-            1,
-            0,
-            &[
-                (1, 0x0D),
-                (1, 0),
-                (384, 1),
-                (1, 0x0D),
-                (1, 0),
-                (384, 2),
-                (1, 0x80),
-            ],
-            1,
-            no_reading,
-        ),
-        // cut; without a stop bit; with bits behind it; an alignment bit of 1; mb_type 26
-        (1, 0, &[(1, 0x0D), (1, 0), (383, 0x80)], 0, no_reading),
-        (1, 0, &[(1, 0x0D), (1, 0), (384, 0x80)], 1, no_reading),
-        (
-            1,
-            0,
-            &[(1, 0x0D), (1, 0), (384, 0x80), (1, 0x81)],
-            1,
-            no_reading,
-        ),
-        (
-            1,
-            0,
-            &[(1, 0x0D), (1, 0x40), (384, 0x80), (1, 0x80)],
-            0,
-            no_reading,
-        ),
-        (
-            1,
-            0,
-            &[(1, 0x0D), (1, 0x80), (384, 0x80), (1, 0x80)],
-            0,
-            no_reading,
-        ),
-    ];
-    for (width, before, runs, count, fault) in rows {
+    for (width, before, runs, count, fault) in &SAMPLES {
         let bytes = bytes_of(rt.alloc(), runs)?;
         let mut bits = SliceBits::new(bytes.as_slice());
-        assert!(rt; bits.skip(before));
-        let answer = read(rt.alloc(), shape_of(SliceKind::I, width, 1), bits)?;
-        assert_eq!(rt; answer, (count, 0, fault));
+        assert!(rt; bits.skip(*before));
+        let shape = shape_of(SliceKind::I, *width, 1);
+        assert!(rt; is_built(&shape));
+        let answer = read(rt.alloc(), shape, bits)?;
+        assert!(rt; answer == (*count, 0, *fault), "{runs:?}");
     }
     Ok(())
 }

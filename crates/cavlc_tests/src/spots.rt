@@ -33,8 +33,12 @@ pub fn skipped(field: bool) -> Mb {
     mb
 }
 
-pub fn spot(mb: u32, block: u8) -> Option<Spot> {
-    Some(Spot { mb, block })
+/// What was found is a block of this macroblock, or nothing where there is none.
+pub fn is_spot(found: Option<Spot>, mb: Option<u32>, block: u8) -> bool {
+    match found {
+        Some(spot) => mb == Some(spot.mb) && block == spot.block,
+        None => mb.is_none(),
+    }
 }
 
 pub fn is_place(place: At) -> bool
