@@ -29,9 +29,9 @@ fn a_slice_from_the_middle_of_a_row_on(rt: HostRuntime) {
         for (place, block_left, block_above) in &PLACES {
             assert!(rt; is_place(*place));
             let found = left(&shape, &[], *at, false, *place);
-            assert!(rt; is_spot(found, *mb_left, *block_left), "left of {at}");
+            assert!(rt; is_spot(found, *mb_left, *block_left));
             let found = above(&shape, &[], *at, false, *place);
-            assert!(rt; is_spot(found, *mb_above, *block_above), "above {at}");
+            assert!(rt; is_spot(found, *mb_above, *block_above));
         }
     }
 }
@@ -71,14 +71,8 @@ fn blocks_of_a_macroblock(rt: HostRuntime) {
     for (place, mb_left, block_left, mb_above, block_above) in &BLOCKS {
         assert!(rt; is_place(*place));
         let found = left(&shape, &[], 4, false, *place);
-        assert!(rt;
-            is_spot(found, Some(*mb_left), *block_left),
-            "left of {place:?}"
-        );
+        assert!(rt; is_spot(found, Some(*mb_left), *block_left));
         let found = above(&shape, &[], 4, false, *place);
-        assert!(rt;
-            is_spot(found, Some(*mb_above), *block_above),
-            "above {place:?}"
-        );
+        assert!(rt; is_spot(found, Some(*mb_above), *block_above));
     }
 }

@@ -33,10 +33,7 @@ fn blocks_beside_the_left_pair(rt: HostRuntime) {
         let (first_mb, second_mb) = (skipped(*first), skipped(*second));
         let done = [first_mb, first_mb, second_mb, second_mb];
         let found = left(&shape, &done, *at, *field, *place);
-        assert!(rt;
-            is_spot(found, Some(*mb), *block),
-            "{field} {first} {second} {at} {place:?}"
-        );
+        assert!(rt; is_spot(found, Some(*mb), *block));
     }
 }
 
@@ -68,10 +65,7 @@ fn blocks_below_the_pair_above(rt: HostRuntime) {
         for (place, block) in &BLOCKS_ABOVE {
             assert!(rt; is_place(*place));
             let found = above(&shape, &[skipped(*above_field); 2], *at, *field, *place);
-            assert!(rt;
-                is_spot(found, Some(*mb), *block),
-                "{field} {above_field} {at} {place:?}"
-            );
+            assert!(rt; is_spot(found, Some(*mb), *block));
         }
     }
 }
@@ -96,9 +90,6 @@ fn flags_of_skipped_pairs(rt: HostRuntime) {
         let (first, second, third) = (skipped(first), skipped(second), skipped(third));
         let done = [first, first, second, second, third, third];
         assert!(rt; *pair <= 3);
-        assert!(rt;
-            inferred_field(&shape, &done, *pair) == *wanted,
-            "{flags:?} {pair}"
-        );
+        assert!(rt; inferred_field(&shape, &done, *pair) == *wanted);
     }
 }

@@ -106,8 +106,7 @@ fn runs_of_skipped_macroblocks(rt: HostRuntime) -> Result<(), Fail> {
     for (kind, width, height, bytes, count, skipped, fault) in &RUNS {
         let shape = shape_of(*kind, *width, *height);
         assert!(rt; is_built(&shape));
-        let answer = read(rt.alloc(), shape, SliceBits::new(bytes))?;
-        assert!(rt; answer == (*count, *skipped, *fault), "{bytes:?}");
+        assert!(rt; read(rt.alloc(), shape, SliceBits::new(bytes))? == (*count, *skipped, *fault));
     }
     Ok(())
 }
@@ -189,13 +188,12 @@ static SAMPLES: [(u32, u8, &[(u16, u8)], u8, Option<SliceFault>); 8] = [
 #[test]
 fn slices_with_samples(rt: HostRuntime) -> Result<(), Fail> {
     for (width, before, runs, count, fault) in &SAMPLES {
+        let shape = shape_of(SliceKind::I, *width, 1);
+        assert!(rt; is_built(&shape));
         let bytes = bytes_of(rt.alloc(), runs)?;
         let mut bits = SliceBits::new(bytes.as_slice());
         assert!(rt; bits.skip(*before));
-        let shape = shape_of(SliceKind::I, *width, 1);
-        assert!(rt; is_built(&shape));
-        let answer = read(rt.alloc(), shape, bits)?;
-        assert!(rt; answer == (*count, 0, *fault), "{runs:?}");
+        assert!(rt; read(rt.alloc(), shape, bits)? == (*count, 0, *fault));
     }
     Ok(())
 }

@@ -4,6 +4,7 @@ use Element::{
     Luma, LumaPattern, P8x8Ref0, QpDelta, Refs, Sample, Subs, Transform8x8,
 };
 use MbKind::{B, Intra, P, Skip};
+use Paired::{Coded, CodedFrame, FieldSkip, FrameSkip};
 use h264_types::{Mb, MbKind, SliceKind, SliceShape, valid};
 
 /// An element of a macroblock to be put, with its value.
@@ -83,86 +84,120 @@ fn shape(kind: SliceKind, width: u32, height: u32, mbaff: bool) -> SliceShape {
     }
 }
 
+/// A slice, a type of macroblock, and whether it stands there.
+static TYPES: [(SliceKind, MbKind, bool); 14] = [
+    (SliceKind::I, Intra(25), true),
+    (SliceKind::P, Intra(0), true),
+    (SliceKind::B, Intra(24), true),
+    (SliceKind::I, Intra(26), false),
+    (SliceKind::I, Skip, false),
+    (SliceKind::I, P(0), false),
+    (SliceKind::P, Skip, true),
+    (SliceKind::P, P(3), true),
+    (SliceKind::P, P(4), false),
+    (SliceKind::P, B(0), false),
+    (SliceKind::B, Skip, true),
+    (SliceKind::B, B(22), true),
+    (SliceKind::B, B(23), false),
+    (SliceKind::B, P(0), false),
+];
+
 #[test]
 fn types_stand_in_their_slices(rt: HostRuntime) {
-    for (slice, kind, is_one) in [
-        (SliceKind::I, Intra(25), true),
-        (SliceKind::P, Intra(0), true),
-        (SliceKind::B, Intra(24), true),
-        (SliceKind::I, Intra(26), false),
-        (SliceKind::I, Skip, false),
-        (SliceKind::I, P(0), false),
-        (SliceKind::P, Skip, true),
-        (SliceKind::P, P(3), true),
-        (SliceKind::P, P(4), false),
-        (SliceKind::P, B(0), false),
-        (SliceKind::B, Skip, true),
-        (SliceKind::B, B(22), true),
-        (SliceKind::B, B(23), false),
-        (SliceKind::B, P(0), false),
-    ] {
-        let mb = Mb::without_elements(kind);
-        assert_eq!(rt;
-            valid(&shape(slice, 1, 1, false), &[mb]),
-            is_one,
-            "{slice:?} {kind:?}"
-        );
+    for (slice, kind, is_one) in &TYPES {
+        let shape = shape(*slice, 1, 1, false);
+        assert!(rt; valid(&shape, &[Mb::without_elements(*kind)]) == *is_one);
     }
 }
 
 /// A macroblock's type, elements that are put into it, and whether it is one in a slice that has its type.
+static ELEMENTS: [(MbKind, &[Element], bool); 40] = [
+    (Intra(0), &[LastMode(8), ChromaMode(3)], true),
+    (Intra(0), &[LastMode(9), ChromaMode(0)], false),
+    (Intra(0), &[LastMode(0), ChromaMode(4)], false),
+    (Intra(25), &[ChromaMode(0), Sample(255)], true),
+    (Intra(0), &[LumaPattern(1), LastLuma(65535)], true),
+    (Intra(0), &[LumaPattern(1), LastLuma(65536)], false),
+    (Intra(0), &[LumaPattern(16), Luma(0)], false),
+    (Intra(1), &[QpDelta(25), Dc(-65535)], true),
+    (Intra(13), &[Luma(1), LastLuma(0)], true),
+    (Intra(13), &[Luma(1), LastLuma(1)], false),
+    (Intra(12), &[Luma(1), LastLuma(0)], false),
+    (Intra(5), &[CbDc(1), CrAc(0)], true),
+    (Intra(5), &[CbDc(1), CrAc(1)], false),
+    (Intra(4), &[CbDc(1), CrAc(0)], false),
+    (Intra(9), &[CbDc(1), CrAc(1)], true),
+    (Intra(0), &[ChromaPattern(2), CrAc(65535)], true),
+    (Intra(0), &[ChromaPattern(3), CrAc(1)], false),
+    (Skip, &[LumaPattern(1), QpDelta(0), Refs(0)], false),
+    (P(0), &[LumaPattern(1), QpDelta(-26), Refs(1)], true),
+    (P(0), &[LumaPattern(1), QpDelta(26), Refs(1)], false),
+    (P(0), &[LumaPattern(1), QpDelta(-27), Refs(1)], false),
+    (P(0), &[LumaPattern(1), Transform8x8, Refs(2)], false),
+    (P(0), &[LumaPattern(1), Transform8x8, Refs(1)], true),
+    (P(1), &[LumaPattern(1), FirstRef(1), Subs(0)], false),
+    (P(3), &[LumaPattern(1), FirstRef(1), Subs(3)], true),
+    (P(3), &[LumaPattern(1), FirstRef(1), Subs(4)], false),
+    (P(3), &[P8x8Ref0, FirstRef(0), Subs(0)], true),
+    (P(3), &[P8x8Ref0, FirstRef(1), Subs(0)], false),
+    (P(3), &[LumaPattern(1), Transform8x8, Subs(0)], true),
+    (P(3), &[LumaPattern(1), Transform8x8, Subs(1)], false),
+    (P(3), &[FirstVector(-32767), Refs(0), Subs(3)], true),
+    (P(3), &[FirstVector(32768), Refs(0), Subs(3)], false),
+    (B(0), &[LumaPattern(1), Transform8x8, Refs(0)], false),
+    (B(1), &[LumaPattern(1), QpDelta(0), Refs(1)], true),
+    (B(2), &[LumaPattern(1), QpDelta(0), Refs(1)], false),
+    (B(22), &[LumaPattern(1), Transform8x8, Subs(3)], true),
+    (B(22), &[LumaPattern(1), Transform8x8, Subs(0)], false),
+    (B(22), &[LumaPattern(1), Transform8x8, Subs(4)], false),
+    (B(22), &[LumaPattern(1), QpDelta(1), Subs(12)], true),
+    (B(22), &[LumaPattern(1), QpDelta(1), Subs(13)], false),
+];
+
+/// The first kind of slice that has the type.
+fn slice_of(kind: MbKind) -> SliceKind {
+    match kind {
+        Intra(_) => SliceKind::I,
+        P(_) | Skip => SliceKind::P,
+        B(_) => SliceKind::B,
+    }
+}
+
 #[test]
 fn elements_stand_where_they_are_sent(rt: HostRuntime) {
-    let rows: [(MbKind, &[Element], bool); 40] = [
-        (Intra(0), &[LastMode(8), ChromaMode(3)], true),
-        (Intra(0), &[LastMode(9), ChromaMode(0)], false),
-        (Intra(0), &[LastMode(0), ChromaMode(4)], false),
-        (Intra(25), &[ChromaMode(0), Sample(255)], true),
-        (Intra(0), &[LumaPattern(1), LastLuma(65535)], true),
-        (Intra(0), &[LumaPattern(1), LastLuma(65536)], false),
-        (Intra(0), &[LumaPattern(16), Luma(0)], false),
-        (Intra(1), &[QpDelta(25), Dc(-65535)], true),
-        (Intra(13), &[Luma(1), LastLuma(0)], true),
-        (Intra(13), &[Luma(1), LastLuma(1)], false),
-        (Intra(12), &[Luma(1), LastLuma(0)], false),
-        (Intra(5), &[CbDc(1), CrAc(0)], true),
-        (Intra(5), &[CbDc(1), CrAc(1)], false),
-        (Intra(4), &[CbDc(1), CrAc(0)], false),
-        (Intra(9), &[CbDc(1), CrAc(1)], true),
-        (Intra(0), &[ChromaPattern(2), CrAc(65535)], true),
-        (Intra(0), &[ChromaPattern(3), CrAc(1)], false),
-        (Skip, &[LumaPattern(1), QpDelta(0), Refs(0)], false),
-        (P(0), &[LumaPattern(1), QpDelta(-26), Refs(1)], true),
-        (P(0), &[LumaPattern(1), QpDelta(26), Refs(1)], false),
-        (P(0), &[LumaPattern(1), QpDelta(-27), Refs(1)], false),
-        (P(0), &[LumaPattern(1), Transform8x8, Refs(2)], false),
-        (P(0), &[LumaPattern(1), Transform8x8, Refs(1)], true),
-        (P(1), &[LumaPattern(1), FirstRef(1), Subs(0)], false),
-        (P(3), &[LumaPattern(1), FirstRef(1), Subs(3)], true),
-        (P(3), &[LumaPattern(1), FirstRef(1), Subs(4)], false),
-        (P(3), &[P8x8Ref0, FirstRef(0), Subs(0)], true),
-        (P(3), &[P8x8Ref0, FirstRef(1), Subs(0)], false),
-        (P(3), &[LumaPattern(1), Transform8x8, Subs(0)], true),
-        (P(3), &[LumaPattern(1), Transform8x8, Subs(1)], false),
-        (P(3), &[FirstVector(-32767), Refs(0), Subs(3)], true),
-        (P(3), &[FirstVector(32768), Refs(0), Subs(3)], false),
-        (B(0), &[LumaPattern(1), Transform8x8, Refs(0)], false),
-        (B(1), &[LumaPattern(1), QpDelta(0), Refs(1)], true),
-        (B(2), &[LumaPattern(1), QpDelta(0), Refs(1)], false),
-        (B(22), &[LumaPattern(1), Transform8x8, Subs(3)], true),
-        (B(22), &[LumaPattern(1), Transform8x8, Subs(0)], false),
-        (B(22), &[LumaPattern(1), Transform8x8, Subs(4)], false),
-        (B(22), &[LumaPattern(1), QpDelta(1), Subs(12)], true),
-        (B(22), &[LumaPattern(1), QpDelta(1), Subs(13)], false),
-    ];
-    for (kind, elements, wanted) in rows {
-        let slice = match kind {
-            Intra(_) => SliceKind::I,
-            P(_) | Skip => SliceKind::P,
-            B(_) => SliceKind::B,
-        };
-        let is_one = valid(&shape(slice, 1, 1, false), &[made(kind, elements)]);
-        assert_eq!(rt; is_one, wanted, "{kind:?}");
+    for (kind, elements, wanted) in &ELEMENTS {
+        let shape = shape(slice_of(*kind), 1, 1, false);
+        assert!(rt; valid(&shape, &[made(*kind, elements)]) == *wanted);
+    }
+}
+
+/// The macroblocks of two pairs in a row, and whether they are those of a slice.
+static PAIRS: [(Paired, Paired, Paired, Paired, bool); 8] = [
+    (Coded(3), FieldSkip, FieldSkip, FieldSkip, true),
+    (FieldSkip, Coded(3), FieldSkip, FieldSkip, true),
+    (Coded(3), FieldSkip, FrameSkip, FrameSkip, false),
+    (Coded(3), FrameSkip, FrameSkip, FrameSkip, false),
+    (FieldSkip, FieldSkip, FrameSkip, FrameSkip, false),
+    (Coded(3), FieldSkip, FrameSkip, CodedFrame(1), true),
+    (Coded(3), FieldSkip, FrameSkip, CodedFrame(2), false),
+    (Coded(3), Coded(4), FrameSkip, FrameSkip, false),
+];
+
+/// A macroblock of a pair: skipped ones by their flag, and P_L0_16x16 of a field or a frame pair with its index.
+#[derive(Clone, Copy)]
+enum Paired {
+    FrameSkip,
+    FieldSkip,
+    Coded(u8),
+    CodedFrame(u8),
+}
+
+fn macroblock_of(which: Paired) -> Mb {
+    match which {
+        FrameSkip => Mb::without_elements(MbKind::Skip),
+        FieldSkip => made(MbKind::Skip, &[Field]),
+        Coded(index) => made(MbKind::P(0), &[Field, Refs(index)]),
+        CodedFrame(index) => made(MbKind::P(0), &[Refs(index)]),
     }
 }
 
@@ -170,23 +205,14 @@ fn elements_stand_where_they_are_sent(rt: HostRuntime) {
 /// twice.
 #[test]
 fn pairs_have_one_flag(rt: HostRuntime) {
-    let frame = Mb::without_elements(MbKind::Skip);
-    let field = made(MbKind::Skip, &[Field]);
-    let coded = made(MbKind::P(0), &[Field, Refs(3)]);
     let shape = shape(SliceKind::P, 2, 2, true);
-    for (mbs, wanted) in [
-        ([coded, field, field, field], true),
-        ([field, coded, field, field], true),
-        ([coded, field, frame, frame], false),
-        ([coded, frame, frame, frame], false),
-        ([field, field, frame, frame], false),
-        ([coded, field, frame, made(MbKind::P(0), &[Refs(1)])], true),
-        ([coded, field, frame, made(MbKind::P(0), &[Refs(2)])], false),
-        (
-            [coded, made(MbKind::P(0), &[Field, Refs(4)]), frame, frame],
-            false,
-        ),
-    ] {
-        assert_eq!(rt; valid(&shape, &mbs), wanted, "{mbs:?}");
+    for (first, second, third, fourth, wanted) in &PAIRS {
+        let mbs = [
+            macroblock_of(*first),
+            macroblock_of(*second),
+            macroblock_of(*third),
+            macroblock_of(*fourth),
+        ];
+        assert!(rt; valid(&shape, &mbs) == *wanted);
     }
 }
