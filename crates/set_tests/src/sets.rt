@@ -26,79 +26,78 @@ const LISTS: [u8; 43] = [
     0x93, 0xF2, 0x7C, 0x9E, 0x6E, 0x4C, 0x93, 0x42, 0x00, 0x84, 0xB0,
 ];
 
+/// One macroblock; the greatest width; High; a pair of macroblocks; and the two of encoders.
+static SEQUENCE_SETS: [&[u8]; 6] = [
+    &MAIN,
+    &[0x4D, 0x40, 0x0A, 0xDA, 0x00, 0x10, 0x7F, 0x90],
+    &[0x64, 0x00, 0x0A, 0xAC, 0xB4, 0xF2],
+    &[0x4D, 0x40, 0x1E, 0xDA, 0x6C, 0x80],
+    &HIGH,
+    &VUI,
+];
+
 #[test]
 fn sequence_sets_come_back(rt: HostRuntime) -> Result<(), Fail> {
-    // one macroblock; the greatest width; High; a pair of macroblocks
-    let rows: [&[u8]; 6] = [
-        &MAIN,
-        &[0x4D, 0x40, 0x0A, 0xDA, 0x00, 0x10, 0x7F, 0x90],
-        &[0x64, 0x00, 0x0A, 0xAC, 0xB4, 0xF2],
-        &[0x4D, 0x40, 0x1E, 0xDA, 0x6C, 0x80],
-        &HIGH,
-        &VUI,
-    ];
-    for payload in rows {
+    for payload in &SEQUENCE_SETS {
         let sps = read_sps(rt.alloc(), payload)?;
-        assert_eq!(rt; write_sps(rt.alloc(), &sps)?.as_slice(), payload);
+        assert!(rt; write_sps(rt.alloc(), &sps)?.as_slice() == *payload);
     }
-    let sps = read_sps(rt.alloc(), &HIGH)?;
-    // the two offsets that were put into its bytes
-    assert_eq!(rt;
-        sps.offset_for_ref_frame.into_vec().as_slice(),
-        [3, -2].as_slice()
-    );
     Ok(())
 }
+
+#[test]
+fn offsets_of_a_cycle(rt: HostRuntime) -> Result<(), Fail> {
+    let sps = read_sps(rt.alloc(), &HIGH)?;
+    // the two offsets that were put into its bytes
+    assert!(rt; sps.offset_for_ref_frame.into_vec().as_slice() == [3, -2].as_slice());
+    Ok(())
+}
+
+static PICTURE_SETS: [(&[u8], Layer, u8, &[u8]); 5] = [
+    (&[0xCE, 0x38, 0x80], Layer::Cabac, 0, &[0xEE, 0x38, 0x80]),
+    (
+        &[0xCE, 0x38, 0x80],
+        Layer::Cabac,
+        255,
+        &[0x00, 0x80, 0x6E, 0x38, 0x80],
+    ),
+    (&[0xCE, 0x38, 0xB0], Layer::Cavlc, 0, &[0xCE, 0x38, 0xB0]),
+    (
+        &[0xEB, 0xE3, 0xCB, 0x20],
+        Layer::Cavlc,
+        0,
+        &[0xCB, 0xE3, 0xCB, 0x20],
+    ),
+    (&LISTS, Layer::Cabac, 0, &LISTS),
+];
 
 #[test]
 fn picture_sets_in_a_layer(rt: HostRuntime) -> Result<(), Fail> {
-    let rows: [(&[u8], Layer, u8, &[u8]); 5] = [
-        (&[0xCE, 0x38, 0x80], Layer::Cabac, 0, &[0xEE, 0x38, 0x80]),
-        (
-            &[0xCE, 0x38, 0x80],
-            Layer::Cabac,
-            255,
-            &[0x00, 0x80, 0x6E, 0x38, 0x80],
-        ),
-        (&[0xCE, 0x38, 0xB0], Layer::Cavlc, 0, &[0xCE, 0x38, 0xB0]),
-        (
-            &[0xEB, 0xE3, 0xCB, 0x20],
-            Layer::Cavlc,
-            0,
-            &[0xCB, 0xE3, 0xCB, 0x20],
-        ),
-        (&LISTS, Layer::Cabac, 0, &LISTS),
-    ];
-    for (payload, layer, number, written) in rows {
+    for (payload, layer, number, written) in &PICTURE_SETS {
         let pps = read_pps(rt.alloc(), payload)?;
-        assert_eq!(rt;
-            write_pps(rt.alloc(), &pps, layer, number)?.as_slice(),
-            written
-        );
+        assert!(rt; write_pps(rt.alloc(), &pps, *layer, *number)?.as_slice() == *written);
     }
     Ok(())
 }
 
+/// No stop bit; profile 66; width 1056, with a stop bit and without.
+static REFUSED: [(&[u8], SetFault); 4] = [
+    (&[0x4D, 0x40, 0x0A, 0xDA, 0x78], SetFault::NoReading),
+    (&[0x42], SetFault::Profile),
+    (
+        &[0x4D, 0x40, 0x0A, 0xDA, 0x00, 0x10, 0x83, 0x90],
+        SetFault::Limit,
+    ),
+    (
+        &[0x4D, 0x40, 0x0A, 0xDA, 0x00, 0x10, 0x83, 0x90, 0x00],
+        SetFault::NoReading,
+    ),
+];
+
 #[test]
 fn sets_are_refused(rt: HostRuntime) {
-    // no stop bit; profile 66; width 1056, with a stop bit and without
-    let rows: [(&[u8], SetFault); 4] = [
-        (&[0x4D, 0x40, 0x0A, 0xDA, 0x78], SetFault::NoReading),
-        (&[0x42], SetFault::Profile),
-        (
-            &[0x4D, 0x40, 0x0A, 0xDA, 0x00, 0x10, 0x83, 0x90],
-            SetFault::Limit,
-        ),
-        (
-            &[0x4D, 0x40, 0x0A, 0xDA, 0x00, 0x10, 0x83, 0x90, 0x00],
-            SetFault::NoReading,
-        ),
-    ];
-    for (payload, fault) in rows {
-        assert_eq!(rt; read_sps(rt.alloc(), payload).err(), Some(fault));
+    for (payload, fault) in &REFUSED {
+        assert!(rt; read_sps(rt.alloc(), payload).err() == Some(*fault));
     }
-    assert_eq!(rt;
-        read_pps(rt.alloc(), &[0xCE, 0x38]).err(),
-        Some(SetFault::NoReading)
-    );
+    assert!(rt; read_pps(rt.alloc(), &[0xCE, 0x38]).err() == Some(SetFault::NoReading));
 }
