@@ -58,6 +58,16 @@ impl Bins {
                 .all(|(bit, bin)| bin.1 == (*bit == b'1'))
     }
 
+    /// The list is this one.
+    pub fn is_list(&self, expected: &[(Kind, bool)]) -> bool {
+        self.list.as_slice() == expected
+    }
+
+    /// The first and the last bins are these.
+    pub fn begins_and_ends(&self, front: &[(Kind, bool)], back: &[(Kind, bool)]) -> bool {
+        self.list.starts_with(front) && self.list.ends_with(back)
+    }
+
     /// The next bin, if it is coded in this way.
     fn take(&mut self, kind: Kind) -> Option<bool> {
         let (expected, bit) = *self.list.get(self.next)?;

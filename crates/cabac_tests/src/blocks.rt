@@ -29,33 +29,50 @@ fn written(
     Ok(bins.again())
 }
 
+/// A level of 16: coded_block_flag, the map, fourteen ones of the level, and its suffix and sign.
+static SIXTEEN: [(Kind, bool); 21] = [
+    (Context(99), true),
+    (Context(149), true),
+    (Context(210), true),
+    (Context(258), true),
+    (Context(262), true),
+    (Context(262), true),
+    (Context(262), true),
+    (Context(262), true),
+    (Context(262), true),
+    (Context(262), true),
+    (Context(262), true),
+    (Context(262), true),
+    (Context(262), true),
+    (Context(262), true),
+    (Context(262), true),
+    (Context(262), true),
+    (Context(262), true),
+    (Bypass, true),
+    (Bypass, false),
+    (Bypass, false),
+    (Bypass, false),
+];
+
 #[test]
 fn a_level_of_sixteen(rt: HostRuntime) -> Result<(), Fail> {
-    // coded_block_flag, the map, fourteen ones of the level, and its suffix and sign
     let levels = [16, 0, 0, 0];
     let mut bins = written(rt.alloc(), 3, false, 2, &levels)?;
-    let front = [
-        (Context(99), true),
-        (Context(149), true),
-        (Context(210), true),
-        (Context(258), true),
-    ];
-    let back = [
-        (Bypass, true),
-        (Bypass, false),
-        (Bypass, false),
-        (Bypass, false),
-    ];
-    let ones = bins.list.iter().filter(|bin| **bin == (Context(262), true));
-    assert_eq!(rt; ones.count(), 13);
-    assert_eq!(rt; bins.list.len(), 21);
-    assert!(rt; bins.list.starts_with(&front) && bins.list.ends_with(&back));
+    assert!(rt; bins.is_list(&SIXTEEN));
     let mut read = [7; 4];
     assert!(rt; read_levels(&mut bins, 3, false, 2, &mut read).is_some());
-    assert_eq!(rt; read, levels);
-    assert!(rt; bins.is_read());
+    assert!(rt; read == levels && bins.is_read());
     Ok(())
 }
+
+static LAST_PLACE: [(Kind, bool); 6] = [
+    (Context(97), true),
+    (Context(321), false),
+    (Context(322), false),
+    (Context(323), false),
+    (Context(258), false),
+    (Bypass, true),
+];
 
 #[test]
 fn a_level_at_the_last_place(rt: HostRuntime) -> Result<(), Fail> {
@@ -66,34 +83,37 @@ fn a_level_at_the_last_place(rt: HostRuntime) -> Result<(), Fail> {
     levels.push(-1);
     let mut bins = Bins::new(rt.alloc());
     write_block(&mut bins, 3, &levels, true, 0)?;
-    let expected = [
-        (Context(97), true),
-        (Context(321), false),
-        (Context(322), false),
-        (Context(323), false),
-        (Context(258), false),
-        (Bypass, true),
-    ];
-    assert!(rt; bins.list.as_slice() == expected.as_slice());
-    let read = read_block(&mut bins.again(), 3, 4, true, 0);
-    assert!(rt; read.is_some_and(|block| block.as_slice() == levels.as_slice()));
+    assert!(rt; bins.is_list(&LAST_PLACE));
+    match read_block(&mut bins.again(), 3, 4, true, 0) {
+        Some(read) => assert!(rt; read.as_slice() == levels.as_slice()),
+        None => assert!(rt; false),
+    }
     Ok(())
 }
 
+/// In a frame macroblock, and in a field one.
+static LONG: [[(Kind, bool); 4]; 2] = [
+    [
+        (Context(402), true),
+        (Context(417), true),
+        (Context(427), false),
+        (Bypass, true),
+    ],
+    [
+        (Context(436), true),
+        (Context(451), true),
+        (Context(427), false),
+        (Bypass, true),
+    ],
+];
+
 #[test]
 fn a_block_of_64_has_no_flag(rt: HostRuntime) -> Result<(), Fail> {
-    // whether the macroblock is a field one, and the contexts of the map's first two flags
-    for (field, significant, last) in [(false, 402, 417), (true, 436, 451)] {
-        let mut levels = [0; 64];
-        levels[0] = -1;
-        let bins = written(rt.alloc(), 5, field, 0, &levels)?;
-        let expected = [
-            (Context(significant), true),
-            (Context(last), true),
-            (Context(427), false),
-            (Bypass, true),
-        ];
-        assert!(rt; bins.list.as_slice() == expected.as_slice());
-    }
+    let mut levels = [0; 64];
+    levels[0] = -1;
+    let frame = written(rt.alloc(), 5, false, 0, &levels)?;
+    assert!(rt; frame.is_list(&LONG[0]));
+    let field = written(rt.alloc(), 5, true, 0, &levels)?;
+    assert!(rt; field.is_list(&LONG[1]));
     Ok(())
 }

@@ -2,6 +2,7 @@
 ghost use Rattle.std.specs.Prelude.{◌≡◌, ◌<◌, ◌≤◌};
 ghost use Rattle.cabac_contexts.specs.Increments.{IsBlock};
 
+use Beside::{Ac, Dc, Dropped, Full, Large, Pcm, Quarters, Skip, Transformed};
 use cabac_contexts::{
     ctx_inc_block, ctx_inc_chroma, ctx_inc_chroma_mode, ctx_inc_luma, ctx_inc_qp_delta, ctx_inc_t8,
     ctx_inc_type_i,
@@ -42,145 +43,175 @@ fn before(left: &Mb, above: &Mb) -> [Mb; 4] {
     [skip, *above, skip, *left]
 }
 
-/// The kinds to the left and above, and the increments of mb_type and of the chroma bins.
-#[test]
-fn increments_by_kinds_and_patterns(rt: HostRuntime) {
-    let pcm = Mb::without_elements(MbKind::Intra(25));
-    let mut none = macroblock(MbKind::Intra(0), 15, 0);
-    none.t8 = true;
-    let mut dc = macroblock(MbKind::Intra(0), 7, 1);
-    dc.chroma_mode = 3;
-    // I_16x16 with chroma AC levels and without luma ones
-    let ac = Mb::without_elements(MbKind::Intra(9));
-    let skip = Mb::without_elements(MbKind::Skip);
-    let current = Mb::without_elements(MbKind::Intra(0));
-    // mb_type, intra_chroma_pred_mode, transform flag, luma quarter 0, first and second bin of chroma
-    for (left, above, wanted) in [
-        (&none, &none, [0, 0, 2, 0, 0, 0]),
-        (&dc, &none, [0, 1, 1, 0, 1, 0]),
-        (&none, &dc, [0, 1, 1, 0, 2, 0]),
-        (&ac, &dc, [1, 1, 0, 1, 3, 1]),
-        (&dc, &ac, [1, 1, 0, 2, 3, 2]),
-        (&pcm, &ac, [2, 0, 0, 2, 3, 3]),
-        (&skip, &skip, [2, 0, 0, 3, 0, 0]),
-    ] {
-        let done = before(left, above);
-        let found = [
-            ctx_inc_type_i(&shape(), &done, 4, false, &current),
-            ctx_inc_chroma_mode(&shape(), &done, 4, false, &current),
-            ctx_inc_t8(&shape(), &done, 4, false, &current),
-            ctx_inc_luma(&shape(), &done, 4, false, &current, 0),
-            ctx_inc_chroma(&shape(), &done, 4, false, &current, false),
-            ctx_inc_chroma(&shape(), &done, 4, false, &current, true),
-        ];
-        assert_eq!(rt; found, wanted);
+/// A macroblock beside the current one.
+#[derive(Clone, Copy)]
+enum Beside {
+    Skip,
+    Pcm,
+    /// I_NxN with the 8x8 transform and all luma bits, all of whose levels are 0; with chroma DC levels; without them.
+    Transformed,
+    Quarters,
+    /// I_NxN without the last luma bit, with chroma DC levels and intra_chroma_pred_mode 3.
+    Dc,
+    /// I_16x16 with chroma AC levels and without luma ones.
+    Ac,
+    /// Levels everywhere that a block 0 looks at, in I_NxN and in I_16x16; the same without the bits of the pattern.
+    Full,
+    Large,
+    Dropped,
+}
+
+/// Levels everywhere that a block 0 looks at.
+fn full(kind: MbKind, luma: u8, chroma: u8) -> Mb {
+    let mut full = macroblock(kind, luma, chroma);
+    full.luma[1][16] = 1;
+    full.luma[2][32] = -1;
+    full.chroma_dc[0][3] = 2;
+    full.chroma_ac[1][1][14] = 5;
+    full.chroma_ac[1][2][0] = 5;
+    full
+}
+
+fn neighbour(which: Beside) -> Mb {
+    match which {
+        Skip => Mb::without_elements(MbKind::Skip),
+        Pcm => Mb::without_elements(MbKind::Intra(25)),
+        Ac => Mb::without_elements(MbKind::Intra(9)),
+        Transformed | Quarters => {
+            let chroma = u8::from(matches!(which, Transformed));
+            let mut mb = macroblock(MbKind::Intra(0), 15, chroma);
+            mb.t8 = true;
+            mb
+        }
+        Dc => {
+            let mut mb = macroblock(MbKind::Intra(0), 7, 1);
+            mb.chroma_mode = 3;
+            mb
+        }
+        Full => full(MbKind::Intra(0), 15, 2),
+        Dropped => full(MbKind::Intra(0), 9, 0),
+        Large => {
+            let mut mb = full(MbKind::Intra(24), 15, 2);
+            mb.dc[15] = -7;
+            mb
+        }
     }
 }
 
-/// The quarters of the current macroblock have a bit or none, and those beside it too.
+/// The increments of mb_type, intra_chroma_pred_mode, the transform flag, luma quarter 0, and the first and second bin of chroma.
+fn increments(left: &Mb, above: &Mb) -> [u8; 6] {
+    let done = before(left, above);
+    let current = Mb::without_elements(MbKind::Intra(0));
+    let shape = shape();
+    [
+        ctx_inc_type_i(&shape, &done, 4, false, &current),
+        ctx_inc_chroma_mode(&shape, &done, 4, false, &current),
+        ctx_inc_t8(&shape, &done, 4, false, &current),
+        ctx_inc_luma(&shape, &done, 4, false, &current, 0),
+        ctx_inc_chroma(&shape, &done, 4, false, &current, false),
+        ctx_inc_chroma(&shape, &done, 4, false, &current, true),
+    ]
+}
+
+/// The macroblocks to the left and above, and the increments beside them.
+static BY_KINDS: [(Beside, Beside, [u8; 6]); 7] = [
+    (Quarters, Quarters, [0, 0, 2, 0, 0, 0]),
+    (Dc, Quarters, [0, 1, 1, 0, 1, 0]),
+    (Quarters, Dc, [0, 1, 1, 0, 2, 0]),
+    (Ac, Dc, [1, 1, 0, 1, 3, 1]),
+    (Dc, Ac, [1, 1, 0, 2, 3, 2]),
+    (Pcm, Ac, [2, 0, 0, 2, 3, 3]),
+    (Skip, Skip, [2, 0, 0, 3, 0, 0]),
+];
+
+#[test]
+fn increments_by_kinds_and_patterns(rt: HostRuntime) {
+    for (left, above, wanted) in &BY_KINDS {
+        assert!(rt; increments(&neighbour(*left), &neighbour(*above)) == *wanted);
+    }
+}
+
+/// The bits so far, a quarter, and its increment, where quarter 1 of the left macroblock and quarter 2 of that above have a bit.
+static QUARTERS: [(u8, u8, u8); 8] = [
+    (0, 0, 0),
+    (0, 1, 3),
+    (1, 1, 2),
+    (0, 2, 3),
+    (1, 2, 1),
+    (2, 3, 1),
+    (4, 3, 2),
+    (6, 3, 0),
+];
+
 #[test]
 fn increments_of_luma_quarters(rt: HostRuntime) {
-    // quarter 1 of the left macroblock and quarter 2 of that above have a bit
     let left = macroblock(MbKind::Intra(0), 2, 0);
     let above = macroblock(MbKind::Intra(0), 4, 0);
     let done = before(&left, &above);
-    // the bits so far, the quarter, its increment
-    for (luma, quarter, wanted) in [
-        (0, 0, 0),
-        (0, 1, 3),
-        (1, 1, 2),
-        (0, 2, 3),
-        (1, 2, 1),
-        (2, 3, 1),
-        (4, 3, 2),
-        (6, 3, 0),
-    ] {
-        assert!(rt; quarter < 4);
-        let current = macroblock(MbKind::Intra(0), luma, 0);
-        assert_eq!(rt;
-            ctx_inc_luma(&shape(), &done, 4, false, &current, quarter),
-            wanted,
-            "quarter {quarter}"
-        );
+    let shape = shape();
+    for (luma, quarter, wanted) in &QUARTERS {
+        assert!(rt; *quarter < 4);
+        let current = macroblock(MbKind::Intra(0), *luma, 0);
+        let found = ctx_inc_luma(&shape, &done, 4, false, &current, *quarter);
+        assert!(rt; found == *wanted);
         // the first macroblock has no neighbours: only its own quarters count
-        let alone = ctx_inc_luma(&shape(), &[], 0, false, &current, 0);
-        assert_eq!(rt; alone, 0);
+        assert!(rt; ctx_inc_luma(&shape, &[], 0, false, &current, 0) == 0);
     }
 }
 
 #[test]
 fn increments_of_qp_delta(rt: HostRuntime) {
     let current = Mb::without_elements(MbKind::Intra(0));
-    assert_eq!(rt; ctx_inc_qp_delta(&shape(), &[], 0, false, &current), 0);
+    let shape = shape();
+    assert!(rt; ctx_inc_qp_delta(&shape, &[], 0, false, &current) == 0);
     let mut done = [current; 2];
-    assert_eq!(rt; ctx_inc_qp_delta(&shape(), &done, 2, false, &current), 0);
+    assert!(rt; ctx_inc_qp_delta(&shape, &done, 2, false, &current) == 0);
     done[0].qp_delta = 1;
-    assert_eq!(rt; ctx_inc_qp_delta(&shape(), &done, 2, false, &current), 0);
+    assert!(rt; ctx_inc_qp_delta(&shape, &done, 2, false, &current) == 0);
     done[1].qp_delta = -26;
-    assert_eq!(rt; ctx_inc_qp_delta(&shape(), &done, 2, false, &current), 1);
+    assert!(rt; ctx_inc_qp_delta(&shape, &done, 2, false, &current) == 1);
 }
 
 /// No neighbours: the flags of an intra macroblock count as 1, of another one as 0.
 #[test]
 fn blocks_without_neighbours(rt: HostRuntime) {
-    for (kind, wanted) in [(MbKind::Intra(3), 3), (MbKind::P(0), 0)] {
-        let current = Mb::without_elements(kind);
-        for cat in 0..5 {
-            assert_eq!(rt;
-                ctx_inc_block(&shape(), &[], 0, false, &current, cat, 0, 0),
-                wanted,
-                "category {cat}"
-            );
-        }
+    let shape = shape();
+    let intra = Mb::without_elements(MbKind::Intra(3));
+    let inter = Mb::without_elements(MbKind::P(0));
+    for cat in 0..5 {
+        assert!(rt; ctx_inc_block(&shape, &[], 0, false, &intra, cat, 0, 0) == 3);
+        assert!(rt; ctx_inc_block(&shape, &[], 0, false, &inter, cat, 0, 0) == 0);
     }
 }
 
-/// Macroblocks to the left and above, a block, and its increment.
+/// The macroblocks to the left and above, the category and the component of a block 0, and its increment.
+static BLOCKS: [(Beside, Beside, u8, u8, u8); 16] = [
+    (Pcm, Skip, 0, 0, 1),
+    (Skip, Pcm, 1, 0, 2),
+    (Pcm, Pcm, 2, 0, 3),
+    (Pcm, Skip, 3, 1, 1),
+    (Skip, Pcm, 4, 1, 2),
+    (Full, Large, 0, 0, 2),
+    (Large, Full, 0, 0, 1),
+    (Full, Large, 1, 0, 3),
+    (Full, Dropped, 2, 0, 1),
+    (Dropped, Transformed, 2, 0, 2),
+    (Full, Dropped, 3, 0, 1),
+    (Full, Large, 3, 1, 0),
+    (Transformed, Large, 3, 0, 2),
+    (Full, Large, 4, 1, 3),
+    (Full, Large, 4, 0, 0),
+    (Dropped, Transformed, 4, 1, 0),
+];
+
 #[test]
 fn blocks_beside_others(rt: HostRuntime) {
-    let pcm = Mb::without_elements(MbKind::Intra(25));
-    let skip = Mb::without_elements(MbKind::Skip);
-    // levels everywhere that a block 0 looks at, in I_NxN and in I_16x16
-    let mut full = macroblock(MbKind::Intra(0), 15, 2);
-    full.luma[1][16] = 1;
-    full.luma[2][32] = -1;
-    full.chroma_dc[0][3] = 2;
-    full.chroma_ac[1][1][14] = 5;
-    full.chroma_ac[1][2][0] = 5;
-    let mut large = full;
-    large.kind = MbKind::Intra(24);
-    large.dc[15] = -7;
-    // the same without the bits of the pattern
-    let mut dropped = full;
-    dropped.pattern = Pattern { luma: 9, chroma: 0 };
-    // all levels 0, with the 8x8 transform
-    let mut transformed = macroblock(MbKind::Intra(0), 15, 1);
-    transformed.t8 = true;
     let current = Mb::without_elements(MbKind::Intra(0));
-    for (left, above, cat, comp, wanted) in [
-        (&pcm, &skip, 0, 0, 1),
-        (&skip, &pcm, 1, 0, 2),
-        (&pcm, &pcm, 2, 0, 3),
-        (&pcm, &skip, 3, 1, 1),
-        (&skip, &pcm, 4, 1, 2),
-        (&full, &large, 0, 0, 2),
-        (&large, &full, 0, 0, 1),
-        (&full, &large, 1, 0, 3),
-        (&full, &dropped, 2, 0, 1),
-        (&dropped, &transformed, 2, 0, 2),
-        (&full, &dropped, 3, 0, 1),
-        (&full, &large, 3, 1, 0),
-        (&transformed, &large, 3, 0, 2),
-        (&full, &large, 4, 1, 3),
-        (&full, &large, 4, 0, 0),
-        (&dropped, &transformed, 4, 1, 0),
-    ] {
-        let done = before(left, above);
-        assert!(rt; cat < 5 && comp < 2);
-        assert_eq!(rt;
-            ctx_inc_block(&shape(), &done, 4, false, &current, cat, comp, 0),
-            wanted,
-            "category {cat}, component {comp}"
-        );
+    let shape = shape();
+    for (left, above, cat, comp, wanted) in &BLOCKS {
+        let done = before(&neighbour(*left), &neighbour(*above));
+        assert!(rt; *cat < 5 && *comp < 2);
+        let found = ctx_inc_block(&shape, &done, 4, false, &current, *cat, *comp, 0);
+        assert!(rt; found == *wanted);
     }
 }

@@ -101,59 +101,64 @@ fn blocks() -> Mb {
     mb
 }
 
+/// The last macroblock of a slice has so many bins, of which the first and the last are these, and it comes back from them.
+fn has_bins(
+    alloc: Global,
+    mbs: &[Mb],
+    count: usize,
+    front: &[(Kind, bool)],
+    back: &[(Kind, bool)],
+) -> Result<bool, Memory>
+    requires { (1 ≤ length mbs.now) × (length mbs.now ≤ 2) }
+{
+    let shape = row(2);
+    let at = mbs.len() as u32 - 1;
+    let mut bins = Bins::new(alloc);
+    put(&mut bins, &shape, mbs, at)?;
+    let is_known = bins.list.len() == count && bins.begins_and_ends(front, back);
+    let mut bins = bins.again();
+    let mut read = Mb::without_elements(MbKind::Skip);
+    let done = read_macroblock(&mut bins, &shape, mbs, at, false, &mut read);
+    Ok(is_known && done.is_some() && bins.is_read() && mbs.last() == Some(&read))
+}
+
+static FLAT_FRONT: [(Kind, bool); 6] = [
+    (Context(3), true),
+    (End, false),
+    (Context(6), false),
+    (Context(7), false),
+    (Context(9), true),
+    (Context(10), false),
+];
+
+static FLAT_BACK: [(Kind, bool); 3] = [
+    (Context(64), false),
+    (Context(60), false),
+    (Context(88), false),
+];
+
+static SAMPLES: [(Kind, bool); 2] = [(Context(3), true), (End, true)];
+
+/// Beside one with the 8x8 transform, chroma levels, another chroma mode and an mb_qp_delta.
+static PREDICTED_FRONT: [(Kind, bool); 2] = [(Context(3), false), (Context(400), false)];
+
+static PREDICTED_BACK: [(Kind, bool); 7] = [
+    (Context(68), true),
+    (Context(65), false),
+    (Context(73), false),
+    (Context(74), false),
+    (Context(75), false),
+    (Context(76), false),
+    (Context(78), false),
+];
+
 #[test]
 fn bins_of_macroblocks(rt: HostRuntime) -> Result<(), Fail> {
     let samples = Mb::without_elements(MbKind::Intra(25));
-    // the macroblocks of a slice, the number of bins of the last one, the first of them, and the last ones
-    let rows: [(&[Mb], usize, &[(Kind, bool)], &[(Kind, bool)]); 3] = [
-        (
-            &[flat()],
-            9,
-            &[
-                (Context(3), true),
-                (End, false),
-                (Context(6), false),
-                (Context(7), false),
-                (Context(9), true),
-                (Context(10), false),
-            ],
-            &[
-                (Context(64), false),
-                (Context(60), false),
-                (Context(88), false),
-            ],
-        ),
-        (&[samples], 2, &[(Context(3), true), (End, true)], &[]),
-        // beside one with the 8x8 transform, chroma levels, another chroma mode and an mb_qp_delta
-        (
-            &[detailed(), predicted()],
-            24,
-            &[(Context(3), false), (Context(400), false)],
-            &[
-                (Context(68), true),
-                (Context(65), false),
-                (Context(73), false),
-                (Context(74), false),
-                (Context(75), false),
-                (Context(76), false),
-                (Context(78), false),
-            ],
-        ),
-    ];
-    let shape = row(2);
-    for (mbs, count, front, back) in rows {
-        assert!(rt; mbs.len() == 1 || mbs.len() == 2);
-        let at = mbs.len() as u32 - 1;
-        let mut bins = Bins::new(rt.alloc());
-        put(&mut bins, &shape, mbs, at)?;
-        assert_eq!(rt; bins.list.len(), count);
-        assert!(rt; bins.list.starts_with(front) && bins.list.ends_with(back));
-        let mut bins = bins.again();
-        let mut read = Mb::without_elements(MbKind::Skip);
-        let done = read_macroblock(&mut bins, &shape, mbs, at, false, &mut read);
-        assert!(rt; done.is_some() && bins.is_read());
-        assert_eq!(rt; Some(&read), mbs.last());
-    }
+    assert!(rt; has_bins(rt.alloc(), &[flat()], 9, &FLAT_FRONT, &FLAT_BACK)?);
+    assert!(rt; has_bins(rt.alloc(), &[samples], 2, &SAMPLES, &SAMPLES)?);
+    let pair = [detailed(), predicted()];
+    assert!(rt; has_bins(rt.alloc(), &pair, 24, &PREDICTED_FRONT, &PREDICTED_BACK)?);
     Ok(())
 }
 
@@ -187,36 +192,44 @@ fn flags_of_blocks(rt: HostRuntime) -> Result<(), Fail> {
     Ok(())
 }
 
-/// A macroblock alone in its slice, whose contexts all start in state 0, written into a segment and read back from it.
+/// The bytes of a macroblock alone in its slice, whose contexts start by this table.
+fn segment_of(alloc: Global, init: &InitTable, mb: &Mb) -> Result<Option<Vec<u8>>, Memory> {
+    let encoder = Encoder::start(alloc, BitVec::new(alloc));
+    let mut coder = OutCoder::new(Contexts::start(init, 26, 0), encoder);
+    if !put(&mut coder, &row(1), &[*mb], 0)? {
+        return Ok(None);
+    }
+    coder.end(true)?;
+    let (_contexts, bits) = coder.close()?;
+    filled(bits)
+}
+
+/// The macroblock that such bytes hold.
+fn read_back(init: &InitTable, bytes: &[u8]) -> Option<Mb> {
+    let decoder = Decoder::start(SliceBits::new(bytes)).ok()?;
+    let mut coder = InCoder::new(Contexts::start(init, 26, 0), decoder);
+    let mut read = Mb::without_elements(MbKind::Skip);
+    read_macroblock(&mut coder, &row(1), &[], 0, false, &mut read)?;
+    let (_contexts, _bits) = coder.into_parts();
+    Some(read)
+}
+
+/// A macroblock has a segment that begins with these bytes, and comes back from it.
+fn comes_back(alloc: Global, init: &InitTable, mb: &Mb, known: &[u8]) -> Result<bool, Memory> {
+    let Some(bytes) = segment_of(alloc, init, mb)? else {
+        return Ok(false);
+    };
+    let bytes = bytes.as_slice();
+    Ok(bytes.starts_with(known) && read_back(init, bytes) == Some(*mb))
+}
+
+/// With contexts that all start in state 0. The bytes are known of the first one alone.
 #[test]
 fn bytes_of_macroblocks(rt: HostRuntime) -> Result<(), Fail> {
     let Ok(init) = InitTable::of("flat") else {
         return Err(Fail::from("no table"));
     };
-    let shape = row(1);
-    // the bytes are known of the first one alone
-    let rows: [(Mb, &[u8]); 2] = [(flat(), &[0x75, 0xFF]), (detailed(), &[])];
-    for (mb, known) in rows {
-        let encoder = Encoder::start(rt.alloc(), BitVec::new(rt.alloc()));
-        let mut coder = OutCoder::new(Contexts::start(&init, 26, 0), encoder);
-        if !put(&mut coder, &shape, &[mb], 0)? {
-            return Err(Fail::from("no end bin may follow"));
-        }
-        coder.end(true)?;
-        let (_contexts, bits) = coder.close()?;
-        let Some(bytes) = filled(bits)? else {
-            return Err(Fail::from("no bytes"));
-        };
-        assert!(rt; bytes.as_slice().starts_with(known));
-        let Ok(decoder) = Decoder::start(SliceBits::new(bytes.as_slice())) else {
-            return Err(Fail::from("no segment"));
-        };
-        let mut coder = InCoder::new(Contexts::start(&init, 26, 0), decoder);
-        let mut read = Mb::without_elements(MbKind::Skip);
-        let done = read_macroblock(&mut coder, &shape, &[], 0, false, &mut read);
-        assert!(rt; done.is_some());
-        assert_eq!(rt; read, mb);
-        let (_contexts, _bits) = coder.into_parts();
-    }
+    assert!(rt; comes_back(rt.alloc(), &init, &flat(), &[0x75, 0xFF])?);
+    assert!(rt; comes_back(rt.alloc(), &init, &detailed(), &[])?);
     Ok(())
 }

@@ -50,70 +50,83 @@ fn encoded(alloc: Global, bins: &[Coded]) -> Result<Option<Vec<u8>>, Memory> {
     Ok(None)
 }
 
+/// Bins, and the bytes of their segment.
+static SEGMENTS: [(&[Coded], [u8; 2]); 4] = [
+    // 111111101
+    (&[End(true)], [0xFE, 0x80]),
+    // 100001101
+    (&[Context(true), End(true)], [0x86, 0x80]),
+    // low and range after the bypass bin are 510, so the code is 1018 or 1019: 1111111011
+    (&[Bypass(true), End(true)], [0xFE, 0xC0]),
+    // bits that are outstanding: 0111010111111111
+    (
+        &[
+            Context(true),
+            End(false),
+            Context(false),
+            Context(false),
+            Context(true),
+            Context(false),
+            Context(false),
+            Context(false),
+            Context(false),
+            End(true),
+        ],
+        [0x75, 0xFF],
+    ),
+];
+
+fn is_segment(alloc: Global, bins: &[Coded], bytes: &[u8; 2]) -> Result<bool, Memory> {
+    match encoded(alloc, bins)? {
+        Some(segment) => Ok(segment.as_slice() == bytes.as_slice()),
+        None => Ok(false),
+    }
+}
+
 #[test]
 fn segments_are_encoded(rt: HostRuntime) -> Result<(), Fail> {
-    let outstanding = [
-        Context(true),
-        End(false),
-        Context(false),
-        Context(false),
-        Context(true),
-        Context(false),
-        Context(false),
-        Context(false),
-        Context(false),
-        End(true),
-    ];
-    let rows: [(&[Coded], [u8; 2]); 4] = [
-        // 111111101
-        (&[End(true)], [0xFE, 0x80]),
-        // 100001101
-        (&[Context(true), End(true)], [0x86, 0x80]),
-        // low and range after the bypass bin are 510, so the code is 1018 or 1019: 1111111011
-        (&[Bypass(true), End(true)], [0xFE, 0xC0]),
-        // 0111010111111111
-        (&outstanding, [0x75, 0xFF]),
-    ];
-    for (bins, bytes) in rows {
-        let segment = encoded(rt.alloc(), bins)?;
-        assert!(rt; segment.is_some_and(|segment| segment.as_slice() == bytes.as_slice()));
+    for (bins, bytes) in &SEGMENTS {
+        assert!(rt; is_segment(rt.alloc(), bins, bytes)?);
     }
     Ok(())
 }
 
+/// Eight bits, and nine bits that are 510 and 511.
+static NO_SEGMENTS: [&[u8]; 3] = [&[0xFF], &[0xFF, 0x00], &[0xFF, 0x80]];
+
 #[test]
-fn segments_are_decoded(rt: HostRuntime) {
-    // eight bits, and nine bits that are 510 and 511
-    let rows: [&[u8]; 3] = [&[0xFF], &[0xFF, 0x00], &[0xFF, 0x80]];
-    for bytes in rows {
-        match Decoder::start(SliceBits::new(bytes)) {
-            Ok(_) => assert!(rt; false),
-            Err(refusal) => {
-                let _bits = refusal.bits;
-            }
-        }
+fn segments_are_refused(rt: HostRuntime) {
+    for bytes in &NO_SEGMENTS {
+        assert!(rt; Decoder::start(SliceBits::new(bytes)).is_err());
     }
-    // 100001101, and seven bits behind
+}
+
+/// A context bin 1, the end, and seven bits behind: 100001101.
+#[test]
+fn a_context_bin_is_decoded(rt: HostRuntime) {
     match Decoder::start(SliceBits::new(&[0x86, 0x80])) {
         Err(_) => assert!(rt; false),
         Ok(mut decoder) => {
             let first = decoder.bin(&mut FRESH);
-            assert_eq!(rt; first, Some(true));
+            assert!(rt; first == Some(true));
             if first.is_some() {
-                assert_eq!(rt; decoder.end(), Some(true));
+                assert!(rt; decoder.end() == Some(true));
             }
             let mut rest = decoder.into_bits();
-            assert!(rt; rest.skip(7));
-            assert_eq!(rt; rest.bit(), None);
+            assert!(rt; rest.skip(7) && rest.bit().is_none());
         }
     }
+}
+
+#[test]
+fn a_bypass_bin_is_decoded(rt: HostRuntime) {
     match Decoder::start(SliceBits::new(&[0xFE, 0xC0])) {
         Err(_) => assert!(rt; false),
         Ok(mut decoder) => {
             let first = decoder.bypass();
-            assert_eq!(rt; first, Some(true));
+            assert!(rt; first == Some(true));
             if first.is_some() {
-                assert_eq!(rt; decoder.end(), Some(true));
+                assert!(rt; decoder.end() == Some(true));
             }
         }
     }

@@ -80,72 +80,86 @@ fn read(bins: &mut Bins, element: Element) -> Option<u8>
     }
 }
 
+/// An element, the context of its first bin, its value, and its bins.
+static STRINGS: [(Element, Kind, u8, &str); 50] = [
+    (SkipP, Context(13), 1, "1"),
+    (SkipB, Context(24), 0, "0"),
+    (Field, Context(71), 1, "1"),
+    (Transform8x8, Context(401), 1, "1"),
+    (ModeFlag, Context(68), 0, "0"),
+    (PatternLuma, Context(76), 1, "1"),
+    (EndOfSlice, End, 1, "1"),
+    (EndOfSlice, End, 0, "0"),
+    // Table 9-36
+    (TypeI, Context(5), 0, "0"),
+    (TypeI, Context(5), 1, "100000"),
+    (TypeI, Context(5), 4, "100011"),
+    (TypeI, Context(5), 5, "1001000"),
+    (TypeI, Context(5), 12, "1001111"),
+    (TypeI, Context(5), 13, "101000"),
+    (TypeI, Context(5), 24, "1011111"),
+    (TypeI, Context(5), 25, "11"),
+    // Table 9-37
+    (TypeP, Context(14), 0, "000"),
+    (TypeP, Context(14), 1, "011"),
+    (TypeP, Context(14), 2, "010"),
+    (TypeP, Context(14), 3, "001"),
+    (TypeP, Context(14), 5, "10"),
+    (TypeP, Context(14), 30, "111"),
+    (TypeB, Context(28), 0, "0"),
+    (TypeB, Context(28), 1, "100"),
+    (TypeB, Context(28), 2, "101"),
+    (TypeB, Context(28), 3, "110000"),
+    (TypeB, Context(28), 10, "110111"),
+    (TypeB, Context(28), 11, "111110"),
+    (TypeB, Context(28), 12, "1110000"),
+    (TypeB, Context(28), 21, "1111001"),
+    (TypeB, Context(28), 22, "111111"),
+    (TypeB, Context(28), 23, "1111010"),
+    (TypeB, Context(28), 48, "11110111"),
+    // Table 9-38
+    (SubP, Context(21), 0, "1"),
+    (SubP, Context(21), 1, "00"),
+    (SubP, Context(21), 2, "011"),
+    (SubP, Context(21), 3, "010"),
+    (SubB, Context(36), 0, "0"),
+    (SubB, Context(36), 1, "100"),
+    (SubB, Context(36), 6, "11011"),
+    (SubB, Context(36), 7, "111000"),
+    (SubB, Context(36), 11, "11110"),
+    (SubB, Context(36), 12, "11111"),
+    // the three bits of rem_intra4x4_pred_mode, the lowest one first
+    (Mode, Context(69), 6, "011"),
+    (ChromaMode, Context(66), 2, "110"),
+    (ChromaMode, Context(66), 3, "111"),
+    (RefIdx, Context(57), 4, "11110"),
+    (PatternChroma, Context(80), 0, "0"),
+    (PatternChroma, Context(80), 1, "10"),
+    (PatternChroma, Context(80), 2, "11"),
+];
+
+/// An element has these bins, of which the first is coded in this way, and it comes back from them.
+fn has_string(
+    bins: Bins,
+    element: Element,
+    first: Kind,
+    value: u8,
+    text: &str,
+) -> Result<bool, Memory>
+    requires { bins.is_over ≡ false }
+{
+    let mut bins = bins;
+    write(&mut bins, element, value)?;
+    let is_string = bins.has_bits(text) && bins.list.first().is_some_and(|bin| bin.0 == first);
+    let mut bins = bins.again();
+    Ok(is_string && read(&mut bins, element) == Some(value) && bins.is_read())
+}
+
 #[test]
 fn elements_have_their_strings(rt: HostRuntime) -> Result<(), Fail> {
-    for (element, first, value, text) in [
-        (SkipP, Context(13), 1, "1"),
-        (SkipB, Context(24), 0, "0"),
-        (Field, Context(71), 1, "1"),
-        (Transform8x8, Context(401), 1, "1"),
-        (ModeFlag, Context(68), 0, "0"),
-        (PatternLuma, Context(76), 1, "1"),
-        (EndOfSlice, End, 1, "1"),
-        (EndOfSlice, End, 0, "0"),
-        // Table 9-36
-        (TypeI, Context(5), 0, "0"),
-        (TypeI, Context(5), 1, "100000"),
-        (TypeI, Context(5), 4, "100011"),
-        (TypeI, Context(5), 5, "1001000"),
-        (TypeI, Context(5), 12, "1001111"),
-        (TypeI, Context(5), 13, "101000"),
-        (TypeI, Context(5), 24, "1011111"),
-        (TypeI, Context(5), 25, "11"),
-        // Table 9-37
-        (TypeP, Context(14), 0, "000"),
-        (TypeP, Context(14), 1, "011"),
-        (TypeP, Context(14), 2, "010"),
-        (TypeP, Context(14), 3, "001"),
-        (TypeP, Context(14), 5, "10"),
-        (TypeP, Context(14), 30, "111"),
-        (TypeB, Context(28), 0, "0"),
-        (TypeB, Context(28), 1, "100"),
-        (TypeB, Context(28), 2, "101"),
-        (TypeB, Context(28), 3, "110000"),
-        (TypeB, Context(28), 10, "110111"),
-        (TypeB, Context(28), 11, "111110"),
-        (TypeB, Context(28), 12, "1110000"),
-        (TypeB, Context(28), 21, "1111001"),
-        (TypeB, Context(28), 22, "111111"),
-        (TypeB, Context(28), 23, "1111010"),
-        (TypeB, Context(28), 48, "11110111"),
-        // Table 9-38
-        (SubP, Context(21), 0, "1"),
-        (SubP, Context(21), 1, "00"),
-        (SubP, Context(21), 2, "011"),
-        (SubP, Context(21), 3, "010"),
-        (SubB, Context(36), 0, "0"),
-        (SubB, Context(36), 1, "100"),
-        (SubB, Context(36), 6, "11011"),
-        (SubB, Context(36), 7, "111000"),
-        (SubB, Context(36), 11, "11110"),
-        (SubB, Context(36), 12, "11111"),
-        // the three bits of rem_intra4x4_pred_mode, the lowest one first
-        (Mode, Context(69), 6, "011"),
-        (ChromaMode, Context(66), 2, "110"),
-        (ChromaMode, Context(66), 3, "111"),
-        (RefIdx, Context(57), 4, "11110"),
-        (PatternChroma, Context(80), 0, "0"),
-        (PatternChroma, Context(80), 1, "10"),
-        (PatternChroma, Context(80), 2, "11"),
-    ] {
-        let mut bins = Bins::new(rt.alloc());
-        write(&mut bins, element, value)?;
-        assert!(rt; bins.has_bits(text), "{text} of {value}");
-        let slot = bins.list.first().map(|bin| bin.0);
-        assert!(rt; slot == Some(first), "{text} of {value}");
-        let mut bins = bins.again();
-        assert_eq!(rt; read(&mut bins, element), Some(value));
-        assert!(rt; bins.is_read());
+    for (element, first, value, text) in &STRINGS {
+        let holds = has_string(Bins::new(rt.alloc()), *element, *first, *value, text)?;
+        assert!(rt; holds);
     }
     Ok(())
 }
