@@ -1,13 +1,8 @@
 // Runs over ends of which some calls fail, and within small bounds.
-use recode_run::run::run_within;
+use crate::runs::{MOST, run_line};
 use recode_run::status::Status;
-use std::alloc::Global;
-use std::process::Abort;
-use std::test::Fail;
+use std::alloc::{AllocError, Global};
 use unit_io::{MemSink, MemSource};
-
-/// The bound of a run.
-const MOST: u64 = 1 << 40;
 
 const CAVLC: &str = "recode --to cavlc --table flat";
 
@@ -42,39 +37,29 @@ struct Case<'a> {
     report: &'a str,
 }
 
-pub fn words_of(alloc: Global, line: &str) -> Result<Vec<String>, Fail> {
-    let mut words = Vec::new(alloc);
-    for word in line.split(' ') {
-        words.push(word.to_string(alloc)?)?;
-    }
-    Ok(words)
-}
-
-// The run of a case, and whether it has its answer.
-fn expect(rt: &impl Abort, alloc: Global, case: &Case<'_>) -> Result<(), Fail> {
-    let words = words_of(alloc, case.words)?;
-    let step = case.step.max(1);
-    let mut src = MemSource::new(case.input.to_vec(alloc)?, step, case.reads.to_vec(alloc)?);
+// Whether the run of a case has its answer.
+fn is_answered(alloc: Global, case: &Case<'_>) -> Result<bool, AllocError> {
+    let input = case.input.to_vec(alloc)?;
+    let mut src = MemSource::new(input, case.step.max(1), case.reads.to_vec(alloc)?);
     let mut out = MemSink::new(alloc, 100, case.writes.to_vec(alloc)?);
     let mut report = MemSink::new(alloc, 4, case.reports.to_vec(alloc)?);
-    let status = run_within(
+    let status = run_line(
         alloc,
-        words.as_slice(),
+        case.words,
         &mut src,
         &mut out,
         &mut report,
-        &mut Vec::new(alloc),
-        case.bound.min(MOST),
-    );
-    let told = case.report;
-    assert_eq!(rt; status, case.status, "at {told}");
-    assert_eq!(rt; out.held(), case.output, "at {told}");
-    assert_eq!(rt; report.held(), told.as_bytes());
-    Ok(())
+        case.bound,
+    )?;
+    Ok(
+        status == case.status
+            && out.held() == case.output
+            && report.held() == case.report.as_bytes(),
+    )
 }
 
 #[test]
-fn ends_fail_and_bounds_are_met(rt: HostRuntime) -> Result<(), Fail> {
+fn ends_fail_and_bounds_are_met(rt: HostRuntime) -> Result<(), AllocError> {
     let good = Case {
         words: CABAC,
         bound: MOST,
@@ -134,7 +119,8 @@ fn ends_fail_and_bounds_are_met(rt: HostRuntime) -> Result<(), Fail> {
         Case { bound: 7, ..good },
     ];
     for case in &cases {
-        expect(&rt, rt.alloc(), case)?;
+        let told = case.report;
+        assert!(rt; is_answered(rt.alloc(), case)?, "{told}");
     }
     Ok(())
 }

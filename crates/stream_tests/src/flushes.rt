@@ -1,13 +1,10 @@
 // The order in which a run writes and flushes.
 ghost use Rattle.std.specs.Prelude.{Some};
 
-use crate::failures::words_of;
-use recode_run::run::run;
+use crate::runs::{MOST, run_line};
 use recode_run::status::Status;
-use std::alloc::Global;
+use std::alloc::{AllocError, Global};
 use std::cell::Cell;
-use std::process::Abort;
-use std::test::Fail;
 use unit_io::{CleanSource, Sink, SinkFault};
 
 /// A sink that takes all bytes and notes when it was first written, last written, and last flushed, by a clock that ticks
@@ -77,33 +74,27 @@ struct Case<'a> {
     report: &'a str,
 }
 
-// The stream is written and flushed before the report is, and this is flushed last.
-fn expect(rt: &impl Abort, alloc: Global, case: &Case<'_>) -> Result<(), Fail> {
-    let words = words_of(alloc, "recode --to cavlc --table flat")?;
+// Whether the stream is written and flushed before the report is, and this is flushed last.
+fn is_in_order(alloc: Global, case: &Case<'_>) -> Result<bool, AllocError> {
     let clock = Cell::new(0);
     let mut src = CleanSource::new(case.input.to_vec(alloc)?, 3);
     let mut out = Noted::new(alloc, &clock, case.out_fails);
     let mut report = Noted::new(alloc, &clock, case.report_fails);
-    let status = run(
-        alloc,
-        words.as_slice(),
-        &mut src,
-        &mut out,
-        &mut report,
-        &mut Vec::new(alloc),
-    );
-    assert_eq!(rt; status, case.status);
-    assert_eq!(rt; out.bytes.as_slice(), [0, 0, 0, 1, 9, 0x10].as_slice());
-    assert_eq!(rt; report.bytes.as_slice(), case.report.as_bytes());
-    assert!(rt; out.last_write < out.last_flush);
-    assert!(rt; Some(out.last_flush) < report.first_write);
-    assert!(rt; report.last_write < report.last_flush);
-    assert_eq!(rt; report.last_flush, clock.get());
-    Ok(())
+    let line = "recode --to cavlc --table flat";
+    let status = run_line(alloc, line, &mut src, &mut out, &mut report, MOST)?;
+    Ok(
+        status == case.status
+            && out.bytes.as_slice() == [0, 0, 0, 1, 9, 0x10].as_slice()
+            && report.bytes.as_slice() == case.report.as_bytes()
+            && out.last_write < out.last_flush
+            && Some(out.last_flush) < report.first_write
+            && report.last_write < report.last_flush
+            && report.last_flush == clock.get(),
+    )
 }
 
 #[test]
-fn the_stream_is_flushed_before_the_report_is_written(rt: HostRuntime) -> Result<(), Fail> {
+fn the_stream_is_flushed_before_the_report_is_written(rt: HostRuntime) -> Result<(), AllocError> {
     let good = Case {
         input: &[0, 0, 1, 9, 0x10],
         out_fails: false,
@@ -132,7 +123,8 @@ fn the_stream_is_flushed_before_the_report_is_written(rt: HostRuntime) -> Result
         },
     ];
     for case in &cases {
-        expect(&rt, rt.alloc(), case)?;
+        let told = case.report;
+        assert!(rt; is_in_order(rt.alloc(), case)?, "{told}");
     }
     Ok(())
 }

@@ -13,6 +13,8 @@ mod prompt;
 #[cfg(test)]
 mod reports;
 #[cfg(test)]
+mod runs;
+#[cfg(test)]
 mod slices;
 #[cfg(test)]
 mod tables;

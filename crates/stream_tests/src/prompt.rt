@@ -1,8 +1,7 @@
 // A unit is written as soon as its end was read.
-use crate::failures::words_of;
-use recode_run::run::run;
+use crate::runs::{MOST, run_line};
 use recode_run::status::Status;
-use std::test::Fail;
+use std::alloc::AllocError;
 use unit_io::{CleanSink, CleanSource, Failed, MemSink, Source};
 
 /// A source that counts the bytes that it gives.
@@ -26,9 +25,8 @@ impl Source for Counted {
 
 // The first of many units ends after eight bytes, and no more than a read behind them is taken.
 #[test]
-fn output_is_not_held_back(rt: HostRuntime) -> Result<(), Fail> {
+fn output_is_not_held_back(rt: HostRuntime) -> Result<(), AllocError> {
     let alloc = rt.alloc();
-    let words = words_of(alloc, "recode --to cavlc --table flat")?;
     let mut input = Vec::new(alloc);
     for _ in 0..200_000 {
         input.extend_from_slice(&[0, 0, 1, 9, 0x10])?;
@@ -37,15 +35,8 @@ fn output_is_not_held_back(rt: HostRuntime) -> Result<(), Fail> {
     let mut src = Counted { source, given: 0 };
     let mut out = MemSink::new(alloc, 100, [0].to_vec(alloc)?);
     let mut report = CleanSink::new(alloc, 100);
-    let status = run(
-        alloc,
-        words.as_slice(),
-        &mut src,
-        &mut out,
-        &mut report,
-        &mut Vec::new(alloc),
-    );
-    assert_eq!(rt; status, Status::WriteFault);
-    assert!(rt; src.given <= 65_543);
+    let line = "recode --to cavlc --table flat";
+    let status = run_line(alloc, line, &mut src, &mut out, &mut report, MOST)?;
+    assert!(rt; status == Status::WriteFault && src.given <= 65_543);
     Ok(())
 }

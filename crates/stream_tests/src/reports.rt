@@ -19,50 +19,60 @@ fn account_of_a_delimiter() -> Account {
     account
 }
 
+/// Each way that a run ends, its line and its number.
+const ROWS: [(Status, &str, u8); 12] = [
+    (
+        Status::Ok,
+        "ok units 1 slices 0 macroblocks 0 in 5 out 6\n",
+        0,
+    ),
+    (Status::BadWords, "bad words\n", 1),
+    (Status::ReadFault, "read fault\n", 2),
+    (Status::WriteFault, "write fault\n", 3),
+    (
+        Status::Stop {
+            case: Case::Empty,
+            place: Place { unit: 2, mb: 7 },
+        },
+        "stop empty unit 2 mb 7\n",
+        4,
+    ),
+    (
+        Status::Stop {
+            case: Case::Number,
+            place: Place { unit: 1, mb: 0 },
+        },
+        "stop number unit 1 mb 0\n",
+        4,
+    ),
+    (
+        Status::Outside {
+            unit: 0,
+            why: Why::NoStart,
+        },
+        "outside unit 0 nostart\n",
+        5,
+    ),
+    (
+        Status::Outside {
+            unit: 1,
+            why: Why::MissingSps(31),
+        },
+        "outside unit 1 missing sps 31\n",
+        5,
+    ),
+    (Status::TooMuch, "too much\n", 6),
+    (Status::Memory, "out of memory\n", 7),
+    (Status::ReportFault, "", 8),
+    (Status::BadTable { at: 3679 }, "bad table 3679\n", 9),
+];
+
 #[test]
 fn each_answer_has_its_line(rt: HostRuntime) -> Result<(), Fail> {
-    let place = Place { unit: 2, mb: 7 };
-    let empty = Status::Stop {
-        case: Case::Empty,
-        place,
-    };
-    let number = Status::Stop {
-        case: Case::Number,
-        place: Place { unit: 1, mb: 0 },
-    };
-    let missing = Status::Outside {
-        unit: 1,
-        why: Why::MissingSps(31),
-    };
-    let rows = [
-        (
-            Status::Ok,
-            "ok units 1 slices 0 macroblocks 0 in 5 out 6\n",
-            0,
-        ),
-        (Status::BadWords, "bad words\n", 1),
-        (Status::ReadFault, "read fault\n", 2),
-        (Status::WriteFault, "write fault\n", 3),
-        (empty, "stop empty unit 2 mb 7\n", 4),
-        (number, "stop number unit 1 mb 0\n", 4),
-        (
-            Status::Outside {
-                unit: 0,
-                why: Why::NoStart,
-            },
-            "outside unit 0 nostart\n",
-            5,
-        ),
-        (missing, "outside unit 1 missing sps 31\n", 5),
-        (Status::TooMuch, "too much\n", 6),
-        (Status::Memory, "out of memory\n", 7),
-        (Status::ReportFault, "", 8),
-        (Status::BadTable { at: 3679 }, "bad table 3679\n", 9),
-    ];
-    for (status, line, code) in rows {
-        let made = report_line(rt.alloc(), &status, &account_of_a_delimiter())?;
-        assert_eq!(rt; made.as_str(), line);
-        assert_eq!(rt; status.code(), code, "at {line}");
+    let account = account_of_a_delimiter();
+    for (status, line, code) in &ROWS {
+        let made = report_line(rt.alloc(), status, &account)?;
+        assert!(rt; made.as_str() == *line && status.code() == *code, "{line}");
     }
     Ok(())
 }

@@ -2,119 +2,131 @@
 use h264_types::{Case, Layer, Mb, MbKind, valid};
 use param_sets::{Sets, read_pps, read_sps};
 use slice_header::shape;
-use slice_rewrite::{How, RewriteFault, Slice, read_slice, recode_slice, write_slice};
+use slice_rewrite::{How, RewriteFault, read_slice, recode_slice, write_slice};
 use std::alloc::Global;
 use std::test::Fail;
 
-/// Main, one macroblock.
-const SPS: [u8; 5] = [0x4D, 0x40, 0x0A, 0xDA, 0x79];
+/// A unit of a slice: the payloads of the sets that it names, its header byte and its payload.
+#[derive(Clone, Copy)]
+struct Unit {
+    sps: &'static [u8],
+    pps: &'static [u8],
+    header: u8,
+    payload: &'static [u8],
+}
 
-const PPS: [u8; 3] = [0xCE, 0x38, 0x80];
-
-/// An IDR slice of one Intra_16x16 macroblock of prediction mode 2 without levels.
-const SLICE: [u8; 4] = [0x88, 0x84, 0x93, 0xC0];
-
-const NAL: u8 = 0x65;
-
-const HOW: How = How {
-    to: Layer::Cavlc,
-    number: 0,
-    idc: 0,
+/// Main, one macroblock: an IDR slice of Intra_16x16 with prediction mode 2 and without levels.
+const INTRA: Unit = Unit {
+    sps: &[0x4D, 0x40, 0x0A, 0xDA, 0x79],
+    pps: &[0xCE, 0x38, 0x80],
+    header: 0x65,
+    payload: &[0x88, 0x84, 0x93, 0xC0],
 };
 
-fn sets(alloc: Global, sps: &[u8], pps: &[u8]) -> Result<Sets, Fail> {
-    let mut sets = Sets::new(alloc);
-    sets.put_sps(read_sps(alloc, sps)?)?;
-    sets.put_pps(read_pps(alloc, pps)?)?;
-    Ok(sets)
-}
+/// High, fields of four by two macroblocks, with the 8x8 transform: a slice of a bottom field with 32 active references,
+/// of one skipped macroblock, that is no reference.
+const FIELD: Unit = Unit {
+    sps: &[0x64, 0, 0x14, 0xAC, 0xCA, 0xC4, 0x44, 0x80],
+    pps: &[0xCE, 0x3C, 0xB0],
+    header: 1,
+    payload: &[0xE3, 0x82, 0xC1, 2, 0x94],
+};
 
-// pic_parameter_set_id 1 is 010 where 0 was 1.
-#[test]
-fn another_number_is_written(rt: HostRuntime) -> Result<(), Fail> {
-    let sets = sets(rt.alloc(), &SPS, &PPS)?;
-    let again = recode_slice(rt.alloc(), &sets, NAL, &SLICE, Layer::Cavlc, 1)?;
-    assert_eq!(rt;
-        again.payload.as_slice(),
-        [0x88, 0x41, 0x24, 0xF0].as_slice()
-    );
-    assert_eq!(rt; again.macroblocks, 1);
-    Ok(())
-}
-
-/// What is answered to a slice with this macroblock in place of its own.
-fn written_with(
-    alloc: Global,
-    sets: &Sets,
-    nal: u8,
-    payload: &[u8],
-    mb: &Mb,
-) -> Result<Result<Vec<u8>, RewriteFault>, Fail> {
-    let Slice { header, .. } = read_slice(alloc, sets, nal, payload)?;
-    if !valid(&shape(sets, &header), &[*mb]) {
-        return Err(Fail::from("no macroblock"));
-    }
-    let mut mbs = Vec::new(alloc);
-    mbs.push(*mb)?;
-    Ok(write_slice(alloc, sets, &Slice { header, mbs }, HOW))
-}
-
-// In Main a level beyond 2064 needs a level_prefix above 15.
-#[test]
-fn a_level_can_stop_a_slice(rt: HostRuntime) -> Result<(), Fail> {
-    let sets = sets(rt.alloc(), &SPS, &PPS)?;
-    let mut mb = Mb::without_elements(MbKind::Intra(3));
-    mb.dc[0] = 2065;
-    match written_with(rt.alloc(), &sets, NAL, &SLICE, &mb)? {
-        Ok(_) => return Err(Fail::from("not stopped")),
-        Err(fault) => assert_eq!(rt; fault, RewriteFault::Stop(Case::Level, 0)),
-    }
-    mb.dc[0] = 2064;
-    let payload = written_with(rt.alloc(), &sets, NAL, &SLICE, &mb)??;
-    let slice = read_slice(rt.alloc(), &sets, NAL, payload.as_slice())?;
-    for mb in slice.mbs.iter() {
-        assert_eq!(rt; mb.dc[0], 2064);
-    }
-    assert_eq!(rt; slice.mbs.len(), 1);
-    Ok(())
-}
-
-/// High, fields of four by two macroblocks, with the 8x8 transform.
-const FIELD_SPS: [u8; 8] = [0x64, 0, 0x14, 0xAC, 0xCA, 0xC4, 0x44, 0x80];
-
-/// Of a slice that is no reference.
-const FIELD_NAL: u8 = 1;
-
-const FIELD_PPS: [u8; 3] = [0xCE, 0x3C, 0xB0];
-
-/// A slice of a bottom field with 32 active references, of one skipped macroblock.
-const FIELD: [u8; 5] = [0xE3, 0x82, 0xC1, 2, 0x94];
-
-/// The same with P_8x8, of which each quarter has parts of another size.
+/// The same slice with P_8x8, of which each quarter has parts of another size.
 const FIELD_8X8: [u8; 22] = [
     0xE3, 0x82, 0xC1, 2, 0xA4, 0xA6, 0x40, 0x41, 0x4F, 0x4C, 0x85, 0x31, 0xC4, 9, 0x14, 0x2C, 0x60,
     0xD1, 0xC3, 0xC2, 1, 0x1C,
 ];
 
-/// The vector differences of the blocks in x, and in y.
+/// The vector differences of its blocks in x, and in y.
 const MVD_X: [i32; 16] = [0, 0, 0, 0, 1, 1, 2, 2, 3, 4, 3, 4, 5, 6, 7, 8];
 
 const MVD_Y: [i32; 16] = [0, 0, 0, 0, -1, -1, -2, -2, -3, -4, -3, -4, -5, -6, -7, -8];
 
-#[test]
-fn fields_are_written_and_read_again(rt: HostRuntime) -> Result<(), Fail> {
-    let sets = sets(rt.alloc(), &FIELD_SPS, &FIELD_PPS)?;
+fn sets_of(alloc: Global, unit: &Unit) -> Result<Sets, Fail> {
+    let mut sets = Sets::new(alloc);
+    sets.put_sps(read_sps(alloc, unit.sps)?)?;
+    sets.put_pps(read_pps(alloc, unit.pps)?)?;
+    Ok(sets)
+}
+
+// What is written for a slice with this macroblock in place of its own, if it is one of the slice's.
+fn written_with(
+    alloc: Global,
+    sets: &Sets,
+    unit: &Unit,
+    mb: &Mb,
+) -> Result<Option<Vec<u8>>, RewriteFault> {
+    let mut slice = read_slice(alloc, sets, unit.header, unit.payload)?;
+    slice.mbs = [*mb].to_vec(alloc)?;
+    if !valid(&shape(sets, &slice.header), slice.mbs.as_slice()) {
+        return Ok(None);
+    }
+    let how = How {
+        to: Layer::Cavlc,
+        number: 0,
+        idc: 0,
+    };
+    Ok(Some(write_slice(alloc, sets, &slice, how)?))
+}
+
+// Whether this payload is read as a slice of this macroblock alone.
+fn is_read_as(
+    alloc: Global,
+    sets: &Sets,
+    header: u8,
+    payload: &[u8],
+    mb: &Mb,
+) -> Result<bool, RewriteFault> {
+    let slice = read_slice(alloc, sets, header, payload)?;
+    Ok(slice.mbs.as_slice() == [*mb].as_slice())
+}
+
+// Whether pic_parameter_set_id 1 is written as 010 where 0 was 1.
+fn takes_another_number(alloc: Global) -> Result<bool, Fail> {
+    let sets = sets_of(alloc, &INTRA)?;
+    let again = recode_slice(alloc, &sets, INTRA.header, INTRA.payload, Layer::Cavlc, 1)?;
+    Ok(again.payload.as_slice() == [0x88, 0x41, 0x24, 0xF0].as_slice() && again.macroblocks == 1)
+}
+
+// Whether the slice stops at a level of 2065, which needs a level_prefix above 15, and has one of 2064.
+fn is_bound_in_main(alloc: Global) -> Result<bool, Fail> {
+    let sets = sets_of(alloc, &INTRA)?;
+    let mut mb = Mb::without_elements(MbKind::Intra(3));
+    mb.dc[0] = 2065;
+    let stopped = written_with(alloc, &sets, &INTRA, &mb);
+    mb.dc[0] = 2064;
+    match written_with(alloc, &sets, &INTRA, &mb)? {
+        Some(payload) => Ok(
+            matches!(stopped, Err(RewriteFault::Stop(Case::Level, 0)))
+                && is_read_as(alloc, &sets, INTRA.header, payload.as_slice(), &mb)?,
+        ),
+        None => Ok(false),
+    }
+}
+
+// Whether the field is written with P_8x8 as it is, and read again.
+fn has_all_parts(alloc: Global) -> Result<bool, Fail> {
+    let sets = sets_of(alloc, &FIELD)?;
     let mut mb = Mb::without_elements(MbKind::P(3));
     mb.subs = [0, 1, 2, 3];
     mb.refs[0] = [31, 0, 1, 2];
     for n in 0..16usize {
         mb.mvd[0][n] = [MVD_X[n], MVD_Y[n]];
     }
-    let payload = written_with(rt.alloc(), &sets, FIELD_NAL, &FIELD, &mb)??;
-    assert_eq!(rt; payload.as_slice(), FIELD_8X8.as_slice());
-    let slice = read_slice(rt.alloc(), &sets, FIELD_NAL, payload.as_slice())?;
-    for read in slice.mbs.iter() {
-        assert_eq!(rt; *read, mb);
+    match written_with(alloc, &sets, &FIELD, &mb)? {
+        Some(payload) => Ok(
+            payload.as_slice() == FIELD_8X8.as_slice()
+                && is_read_as(alloc, &sets, FIELD.header, payload.as_slice(), &mb)?,
+        ),
+        None => Ok(false),
     }
+}
+
+#[test]
+fn slices_are_written(rt: HostRuntime) -> Result<(), Fail> {
+    assert!(rt; takes_another_number(rt.alloc())?);
+    assert!(rt; is_bound_in_main(rt.alloc())?);
+    assert!(rt; has_all_parts(rt.alloc())?);
     Ok(())
 }

@@ -24,67 +24,69 @@ fn numbers(alloc: Global, count: u32) -> Result<String, AllocError> {
     Ok(text)
 }
 
-/// The answer to a text that is no table's.
-fn refusal(text: &str) -> Option<u32> {
-    InitTable::of(text).err().map(|refusal| refusal.at)
+fn is_flat(text: &str) -> bool {
+    match InitTable::of(text) {
+        Ok(table) => table.pair(0, 0) == (0, 64) && table.pair(459, 3) == (0, 64),
+        Err(_) => false,
+    }
 }
 
+/// Whether a text is a table that has its numbers at their places.
+fn has_numbers(text: &str) -> bool {
+    let Ok(table) = InitTable::of(text) else {
+        return false;
+    };
+    for ctx in 0u16..460 {
+        for column in 0u8..4 {
+            let place = 8 * u32::from(ctx) + 2 * u32::from(column);
+            let (m, n) = table.pair(ctx, column);
+            if i32::from(m) != number_at(place) || i32::from(n) != number_at(place + 1) {
+                return false;
+            }
+        }
+    }
+    true
+}
+
+/// Whether a text fails at this number.
+fn fails_at(text: &str, place: u32) -> bool {
+    match InitTable::of(text) {
+        Ok(_) => false,
+        Err(refusal) => refusal.at == place,
+    }
+}
+
+/// Texts of no table, and the first number of each that is none.
+const REFUSED: [(&str, u32); 17] = [
+    ("", 0),
+    (" \n", 0),
+    ("x 1", 0),
+    ("1 2 x", 2),
+    ("0 -0 007 127 -128", 5),
+    ("0 128", 1),
+    ("0 -129", 1),
+    ("0 0001", 1),
+    ("0 -", 1),
+    ("0 +1", 1),
+    ("0 1-", 1),
+    ("0 --1", 1),
+    ("1\u{c}2", 0),
+    ("flat 1", 0),
+    ("flat flat", 0),
+    ("Flat", 0),
+    ("1 flat", 1),
+];
+
 #[test]
-fn flat_tables(rt: HostRuntime) {
+fn texts_are_read_as_tables(rt: HostRuntime) -> Result<(), AllocError> {
     for text in ["flat", " flat", "\tflat\r\n"] {
-        match InitTable::of(text) {
-            Ok(table) => {
-                assert_eq!(rt; table.pair(0, 0), (0, 64));
-                assert_eq!(rt; table.pair(459, 3), (0, 64));
-            }
-            Err(_) => assert!(rt; false, "{text:?}"),
-        }
+        assert!(rt; is_flat(text), "{text:?}");
     }
-}
-
-#[test]
-fn a_table_of_numbers(rt: HostRuntime) -> Result<(), AllocError> {
-    match InitTable::of(numbers(rt.alloc(), 3680)?.as_str()) {
-        Ok(table) => {
-            for ctx in 0u16..460 {
-                for column in 0u8..4 {
-                    let place = 8 * u32::from(ctx) + 2 * u32::from(column);
-                    let (m, n) = table.pair(ctx, column);
-                    assert_eq!(rt; i32::from(m), number_at(place));
-                    assert_eq!(rt; i32::from(n), number_at(place + 1));
-                }
-            }
-        }
-        Err(_) => assert!(rt; false),
+    for (text, place) in &REFUSED {
+        assert!(rt; fails_at(text, *place), "{text:?}");
     }
-    Ok(())
-}
-
-#[test]
-fn texts_of_no_table(rt: HostRuntime) -> Result<(), AllocError> {
-    let rows = [
-        ("", 0),
-        (" \n", 0),
-        ("x 1", 0),
-        ("1 2 x", 2),
-        ("0 -0 007 127 -128", 5),
-        ("0 128", 1),
-        ("0 -129", 1),
-        ("0 0001", 1),
-        ("0 -", 1),
-        ("0 +1", 1),
-        ("0 1-", 1),
-        ("0 --1", 1),
-        ("1\u{c}2", 0),
-        ("flat 1", 0),
-        ("flat flat", 0),
-        ("Flat", 0),
-        ("1 flat", 1),
-    ];
-    for (text, place) in rows {
-        assert_eq!(rt; refusal(text), Some(place), "{text:?}");
-    }
-    assert_eq!(rt; refusal(numbers(rt.alloc(), 3679)?.as_str()), Some(3679));
-    assert_eq!(rt; refusal(numbers(rt.alloc(), 3681)?.as_str()), Some(3680));
+    assert!(rt; has_numbers(numbers(rt.alloc(), 3680)?.as_str()));
+    assert!(rt; fails_at(numbers(rt.alloc(), 3679)?.as_str(), 3679));
+    assert!(rt; fails_at(numbers(rt.alloc(), 3681)?.as_str(), 3680));
     Ok(())
 }

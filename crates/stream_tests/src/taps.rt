@@ -1,7 +1,6 @@
 // A tap of the tests, called through the trait.
 ghost use Rattle.std.specs.Prelude.{◌≡◌};
 
-use std::test::Fail;
 use stream_taps::{Event, Tally, Tap, Wish};
 
 #[derive(Drop)]
@@ -40,39 +39,42 @@ impl Tap for Watch {
     }
 }
 
+/// The kinds, macroblocks and bytes read of three events, and what is wished at each.
+const EVENTS: [(u8, u32, u64, Wish); 3] = [
+    (9, 0, 2, Wish::Go),
+    (5, 99, 700, Wish::Go),
+    (1, 1, u64::MAX, Wish::Done),
+];
+
+/// Their sums.
+const SUMS: Tally = Tally {
+    units: 3,
+    slices: 2,
+    macroblocks: 100,
+    bytes_in: u64::MAX,
+    bytes_out: 18,
+};
+
+fn has_enough_at_three(tap: &mut dyn Tap) -> bool {
+    for (kind, macroblocks, bytes_in, wish) in &EVENTS {
+        let event = Event {
+            kind: *kind,
+            macroblocks: *macroblocks,
+            bytes_in: *bytes_in,
+            bytes_out: 6,
+        };
+        if tap.note(event) != *wish {
+            return false;
+        }
+    }
+    tap.tally() == SUMS && tap.limit() == Some(3)
+}
+
 #[test]
-fn a_tap_has_enough_at_its_limit(rt: HostRuntime) -> Result<(), Fail> {
-    let watch = Watch {
+fn a_tap_has_enough_at_its_limit(rt: HostRuntime) {
+    let mut watch = Watch {
         seen: Tally::default(),
         enough: Some(3),
     };
-    let mut taps: Vec<Box<dyn Tap>> = Vec::new(rt.alloc());
-    taps.push(Box::new(rt.alloc(), watch)?)?;
-
-    let wanted = [
-        (9, 0, 2, Wish::Go),
-        (5, 99, 700, Wish::Go),
-        (1, 1, u64::MAX, Wish::Done),
-    ];
-    for tap in taps.iter_mut() {
-        for (kind, macroblocks, bytes_in, wish) in wanted {
-            let event = Event {
-                kind,
-                macroblocks,
-                bytes_in,
-                bytes_out: 6,
-            };
-            assert_eq!(rt; tap.note(event), wish);
-        }
-        let sums = Tally {
-            units: 3,
-            slices: 2,
-            macroblocks: 100,
-            bytes_in: u64::MAX,
-            bytes_out: 18,
-        };
-        assert_eq!(rt; tap.tally(), sums);
-        assert_eq!(rt; tap.limit(), Some(3));
-    }
-    Ok(())
+    assert!(rt; has_enough_at_three(&mut watch));
 }
