@@ -13,7 +13,7 @@ pub enum Step {
 /// Of its entropy layer the ghost members say which lists of macroblocks have slice data in it (`has_data`), and which bits
 /// are those of a list, with so many bits of the slice before them (`is_data`); of the reader what it stands for (`stands`)
 /// and the bits that are left in its source (`left`).
-pub trait SliceReader {
+pub trait SliceReader: Drop {
     ghost use Rattle.std.specs.Prelude.{ℕ, Bool, List};
     ghost use Rattle.h264_types.specs.Valid.{IsSlice};
     ghost use Rattle.h264_types.specs.declared.macroblock.Mb.{Mb};

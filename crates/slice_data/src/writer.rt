@@ -8,7 +8,7 @@ use std::alloc::AllocError as Memory;
 /// Of its entropy layer the ghost members say which bits are the slice data of a list of macroblocks, with so many bits of the
 /// slice before them (`is_data`), and whether a macroblock has a level that can't be said in it (`is_beyond`); of the writer
 /// what it stands for (`writes`).
-pub trait SliceWriter {
+pub trait SliceWriter: Drop {
     ghost use Rattle.std.specs.Prelude.{◌≡◌, ◌++◌, ℕ, Bool, List, length, IfOk};
     ghost use Rattle.h264_types.specs.declared.layer.Layer.{Layer};
     ghost use Rattle.h264_types.specs.declared.macroblock.Mb.{Mb};
