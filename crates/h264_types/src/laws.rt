@@ -1,9 +1,12 @@
 //! Laws of the byte stream format and of macroblocks: functions that do nothing, whose clauses are the laws.
-ghost use Rattle.std.specs.Prelude.{◌≡◌, ◌↔◌, ◌≤◌, List, ℕ, [], ◌∷◌, ◌++◌, length, Option, Some, None, pos};
+ghost use Rattle.std.specs.Prelude.{◌≡◌, ◌↔◌, ◌⊎◌, ◌≤◌, ◌/◌, true, false, List, ℕ, [], ◌∷◌, ◌++◌, length, Option, Some, None, pos};
 ghost use Rattle.h264_types.specs.declared.fault.Why.{Why};
 ghost use Rattle.h264_types.specs.declared.macroblock.Mb.{Mb};
+ghost use Rattle.h264_types.specs.declared.slice_shape.SliceShape.{SliceShape};
+ghost use Rattle.h264_types.specs.LastRows.{LastRows, StandsAt, IsHeld};
 ghost use Rattle.h264_types.specs.Qp.{qp_of};
 ghost use Rattle.h264_types.specs.declared.fault.Why.TheVariants.{NoStart, Unit as BadUnit};
+ghost use Rattle.h264_types.specs.Slice.{earlier, left_number, above_number};
 ghost use Rattle.h264_types.specs.Units.{Splits, Stays, seen, seen_whole, no_more, faulty};
 
 /// A whole input splits into units in one way, and each one does: what is seen of it.
@@ -43,4 +46,15 @@ pub fn short_inputs()
 /// After SliceQPY 40, an mb_qp_delta of 25 gives 13: the quantiser goes round at 52.
 pub fn quantiser_goes_round()
     ensures { (mb : Mb) → mb.qp_delta ≡ pos 25 → qp_of 40 (mb ∷ []) 0 ≡ pos 13 }
+{}
+
+/// The last two rows have what stands before, to the left of and above a macroblock; in MBAFF both macroblocks of the
+/// pairs to the left of and above its pair.
+pub fn earlier_macroblocks_are_held<K>()
+    ensures rows { (of : Mb → K) (shape : SliceShape) (rows : LastRows K) (mbs : List Mb) (at number : ℕ) → shape.mbaff ≡ false → StandsAt of shape rows mbs at
+        → (earlier at 1 ≡ Some number) ⊎ (left_number shape.width shape.first at ≡ Some number) ⊎ (above_number shape.width at ≡ Some number)
+        → IsHeld rows number }
+    ensures pairs { (of : Mb → K) (shape : SliceShape) (rows : LastRows K) (mbs : List Mb) (at number : ℕ) → shape.mbaff ≡ true → StandsAt of shape rows mbs at
+        → (left_number shape.width (shape.first / 2) (at / 2) ≡ Some (number / 2)) ⊎ (above_number shape.width (at / 2) ≡ Some (number / 2))
+        → IsHeld rows number }
 {}
