@@ -8,7 +8,7 @@ use Rattle.std.proofs.lemmas.Bool.Decides.{nat_tests}
 use Rattle.std.proofs.lemmas.List.{drop-append-le, drop-drop, drop-map, length-map, length_push, map_push}
 use Rattle.std.proofs.lemmas.Option.{slice_get-map, slice_get_past}
 use Rattle.circular_buffer.specs.Buffer.{keep_last, last_item}
-use Rattle.h264_types.specs.LastRows.{LastRows, AreRows, StandsAt, IsHeld, kept_at, two_rows, unit_of}
+use Rattle.h264_types.specs.LastRows.{LastRows, AreRows, StandsAt, IsHeld, IsRecent, kept_at, two_rows, unit_of}
 use Rattle.h264_types.specs.Slice.{earlier, left_number, above_number}
 use Rattle.h264_types.proofs.ShapeLaws.{wide}
 use Rattle.h264_types.proofs.SliceLaws.{earlier-before, left_number-before, above_number-before}
@@ -110,11 +110,11 @@ module _ {K : Type 0} (of : Mb → K) (shape : SliceShape) (rows : LastRows K) (
   size_is : length rows.last ≡ min (length mbs) (room shape)
   size_is = ap length are.last ∙ length-map (keep_last (room shape) mbs) of ∙ length-keep_last (room shape) mbs
 
-  -- the place of a macroblock that is held
-  pub rows_at : (number place : ℕ) → IsHeld rows number → place + rows.count ≡ number + length rows.last
+  -- the place of a macroblock
+  pub rows_at : (number place : ℕ) → IsRecent rows number → place + rows.count ≡ number + length rows.last
       → slice_get rows.last place ≡ option_map of (slice_get mbs number)
-  rows_at number place held e =
-      let near : length mbs ≤ number + room shape = omega (arith, held.1, are.counted, same_room) in
+  rows_at number place recent e =
+      let near : length mbs ≤ number + room shape = omega (arith, recent, are.counted, same_room) in
       let there : length mbs - room shape + place ≡ number = grind (arith, size_is, are.counted) in
       ap (λ xs. slice_get xs place) are.last
       ∙ slice_get-map of (keep_last (room shape) mbs) place
@@ -141,7 +141,7 @@ module _ {K : Type 0} (of : Mb → K) (shape : SliceShape) (rows : LastRows K) (
           let number : left_number shape.width shape.first (length mbs) ≡ Some (length mbs - 1) = rw (inner, far) refl in
           let some : 0 < length rows.last = grind (arith, size_is, frame_room mbaff) in
           rows_at (length mbs - 1) (length rows.last - 1)
-          (omega (arith, are.counted, begun), omega (arith, are.counted, same_room, frame_room mbaff, wide))
+          (omega (arith, are.counted, same_room, frame_room mbaff, wide))
           (omega (arith, some, are.counted, begun))
           ∙ ap (kept_at of mbs) (sym number)
       by (inr first) =
@@ -166,7 +166,7 @@ module _ {K : Type 0} (of : Mb → K) (shape : SliceShape) (rows : LastRows K) (
           let some : nat_lt (shape.width - 1) (length rows.last) ≡ true = grind (arith, nat_tests) in
           e ∙ ap (λ t. if t then slice_get rows.last (length rows.last - (shape.width - 1) - 1) else None) some
           ∙ rows_at (length mbs - shape.width) (length rows.last - (shape.width - 1) - 1)
-          (omega (arith, are.counted, wide, far), omega (arith, are.counted, same_room, frame_room mbaff, far))
+          (omega (arith, are.counted, same_room, frame_room mbaff, far))
           (omega (arith, row, are.counted, far, wide))
           ∙ ap (kept_at of mbs) (sym number)
 

@@ -41,9 +41,17 @@ module _ {K : Type 0} where
     pub before : (shape.mbaff ≡ false → at ≤ rows.count) × (shape.mbaff ≡ true → 2 * (at / 2) ≤ rows.count)
     pub behind : (shape.mbaff ≡ false → rows.count ≤ at + 1) × (shape.mbaff ≡ true → rows.count ≤ 2 * (at / 2) + 2)
 
-  -- macroblock `number` is among those of the last two rows
+  -- `number` is that of the next macroblock or the last one, in MBAFF of the pair of one of them
+  abbrev pub IsNear : LastRows K → ℕ → Type 0
+  IsNear rows number = (number ≤ unit_of rows.mbaff rows.count) × (unit_of rows.mbaff rows.count ≤ number + 1)
+
+  -- macroblock `number` isn't before those of the last two rows
+  abbrev pub IsRecent : LastRows K → ℕ → Type 0
+  IsRecent rows number = rows.count ≤ number + two_rows rows.width rows.mbaff
+
+  -- it is one of them
   abbrev pub IsHeld : LastRows K → ℕ → Type 0
-  IsHeld rows number = (number < rows.count) × (rows.count ≤ number + two_rows rows.width rows.mbaff)
+  IsHeld rows number = (number < rows.count) × IsRecent rows number
 
   -- what is kept of a macroblock of the slice
   abbrev pub kept_at : (Mb → K) → List Mb → Option ℕ → Option K

@@ -57,7 +57,7 @@ impl<K: OfMb> Rows<K> {
     ghost use Rattle.std.specs.Option.{option_map};
     ghost use Rattle.circular_buffer.specs.Buffer.{keep_last};
     ghost use Rattle.h264_types.specs.declared.slice_shape.SliceShape.{SliceShape};
-    ghost use Rattle.h264_types.specs.LastRows.{AreRows, IsHeld, kept_at, two_rows, unit_of};
+    ghost use Rattle.h264_types.specs.LastRows.{AreRows, IsHeld, IsNear, IsRecent, kept_at, two_rows, unit_of};
     ghost use Rattle.h264_types.specs.Slice as slice;
     ghost use Rattle.h264_types.specs.SliceShape.{IsSliceShape};
 
@@ -103,7 +103,7 @@ impl<K: OfMb> Rows<K> {
     /// What is kept of a macroblock, or None exactly where it isn't of the last two rows.
     pub fn get(&self, number: u32) -> Option<&K>
         ensures held { IsSome result ↔ IsHeld self.now number }
-        ensures value { (shape : SliceShape) (mbs : List Mb) → AreRows K.of shape self.now mbs → IsHeld self.now number → option_copied result ≡ option_map K.of (slice_get mbs number) }
+        ensures value { (shape : SliceShape) (mbs : List Mb) → AreRows K.of shape self.now mbs → IsRecent self.now number → option_copied result ≡ option_map K.of (slice_get mbs number) }
     {
         let before = self.count as usize - self.kept.len();
         self.kept.get((number as usize).checked_sub(before)?)
@@ -112,8 +112,8 @@ impl<K: OfMb> Rows<K> {
     /// The number to the left of that of the next macroblock or the last one, in MBAFF of the pair of one of them (6.4.9,
     /// 6.4.10). None where the row or the slice begins.
     pub fn left_number(&self, number: u32) -> Option<u32>
-        requires { (number ≤ unit_of self.now.mbaff self.now.count) × (unit_of self.now.mbaff self.now.count ≤ number + 1) }
-        ensures { result ≡ slice.left_number self.now.width (unit_of self.now.mbaff self.now.first) number }
+        ensures value { IsNear self.now number → result ≡ slice.left_number self.now.width (unit_of self.now.mbaff self.now.first) number }
+        ensures before { IfSome result (λ left. left + 1 ≡ number) }
     {
         if self.column_of(number) == 0 {
             None
@@ -124,8 +124,7 @@ impl<K: OfMb> Rows<K> {
 
     /// The column of the next macroblock or the last one, in MBAFF of the pair of one of them.
     fn column_of(&self, number: u32) -> u32
-        requires { (number ≤ unit_of self.now.mbaff self.now.count) × (unit_of self.now.mbaff self.now.count ≤ number + 1) }
-        ensures value { result ≡ (unit_of self.now.mbaff self.now.first + number) % self.now.width }
+        ensures value { IsNear self.now number → result ≡ (unit_of self.now.mbaff self.now.first + number) % self.now.width }
         ensures wide { 0 < self.now.width }
     {
         if number == unit_of(self.mbaff, self.count) {
