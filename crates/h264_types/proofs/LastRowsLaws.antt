@@ -1,11 +1,12 @@
 -- What is kept of the last two rows tells what stands around the next macroblock.
 use Rattle.std.proofs.Common.{◌≡◌, ◌⊎◌, ℕ, zero, suc, ◌+◌, ◌-◌, ◌*◌, ◌/◌, ◌%◌, ◌<◌, ◌≤◌, Bool, true, false, List, [], ◌∷◌, ◌++◌, length, drop, map, inl, inr, Option, Some, None, refl, sym, ap, subst, ◌∙◌, length-drop, arith}
-use Rattle.std.specs.Prelude.{slice_get, ◌==◌, nat_lt, min, if◌then◌else◌}
+use Rattle.std.specs.Prelude.{slice_get, ◌==◌, nat_lt, min, if◌then◌else◌, All, IfSome}
 use Rattle.std.specs.Option.{option_map}
 use Rattle.std.proofs.Math.Nat.{add-mod_right, mod-add-mod}
 use Rattle.std.proofs.lemmas.Bool.{cases_lt}
 use Rattle.std.proofs.lemmas.Bool.Decides.{nat_tests}
 use Rattle.std.proofs.lemmas.List.{drop-append-le, drop-drop, drop-map, length-map, length_push, map_push}
+use Rattle.std.proofs.lemmas.List.Elements.{All-drop, All-head, All-push, All-tail}
 use Rattle.std.proofs.lemmas.Option.{slice_get-map, slice_get_past}
 use Rattle.circular_buffer.specs.Buffer.{keep_last, last_item}
 use Rattle.h264_types.specs.LastRows.{LastRows, AreRows, StandsAt, IsHeld, IsRecent, kept_at, two_rows, unit_of}
@@ -78,6 +79,26 @@ module _ {X : Type 0} where
 
   pub length-keep_last : (n : ℕ) (xs : List X) → length (keep_last n xs) ≡ min (length xs) n
   length-keep_last n xs = grind (arith, length-drop (length xs - n) xs)
+
+  -- what holds of all that is kept
+  pub all_kept : (P : X → Type 0) (n : ℕ) (xs kept : List X) (x : X) → kept ≡ keep_last n (xs ++ x ∷ []) → P x → All P xs → All P kept
+  all_kept P n xs kept x e is all = subst (All P) (sym e) (All-drop P (length (xs ++ x ∷ []) - n) (xs ++ x ∷ []) (All-push P xs x all is))
+
+  of_each : (P : X → Type 0) (xs : List X) (i : ℕ) → All P xs → IfSome (slice_get xs i) P
+  of_each P [] i all = tt
+  of_each P (x ∷ xs) zero all = All-head P x xs all
+  of_each P (x ∷ xs) (suc i) all = of_each P xs i (All-tail P x xs all)
+
+  pub all_at : (P : X → Type 0) (xs : List X) (i : ℕ) (o : Option X) → o ≡ slice_get xs i → All P xs → IfSome o P
+  all_at P xs i o e all = subst (λ o. IfSome o P) (sym e) (of_each P xs i all)
+
+  pub all_at_back : (P : X → Type 0) (xs : List X) (k : ℕ) (o : Option X)
+      → o ≡ (if nat_lt k (length xs) then slice_get xs (length xs - k - 1) else None) → All P xs → IfSome o P
+  all_at_back P xs k o e all = by (nat_lt k (length xs)) o e
+    where
+      by : (b : Bool) (o : Option X) → o ≡ (if b then slice_get xs (length xs - k - 1) else None) → IfSome o P
+      by true o e = all_at P xs (length xs - k - 1) o e all
+      by false o e = subst (λ o. IfSome o P) (sym e) tt
 
 module _ {X Y : Type 0} where
   pub keep_last-map : (f : X → Y) (n : ℕ) (xs : List X) → keep_last n (map f xs) ≡ map f (keep_last n xs)

@@ -13,14 +13,20 @@ pub trait OfMb: Copy {
 
     ghost of: { Mb → Self };
 
+    /// What holds of all that is kept of a macroblock whose lists are as long as its arrays.
+    ghost Is: { Self → Type 0 };
+
     /// What is kept of this macroblock.
     fn of(mb: &Mb) -> Self
-        ensures { result ≡ of mb.now };
+        ensures value { result ≡ of mb.now }
+        ensures is { Is result };
 }
 
 /// The macroblock itself.
 impl OfMb for Mb {
     ghost of = { λ mb. mb };
+
+    ghost Is = { λ _. Unit {0} };
 
     fn of(mb: &Mb) -> Mb {
         *mb
@@ -42,14 +48,14 @@ pub struct Rows<K: OfMb> {
 }
 
 impl<K: OfMb> Model for Rows<K> {
-    ghost use Rattle.std.specs.Prelude.{length};
+    ghost use Rattle.std.specs.Prelude.{length, All};
     ghost use Rattle.h264_types.specs.LastRows.{LastRows, AreCounts};
 
     ghost Value = { LastRows K };
 
     ghost view = { λ r. record { width = r.width; height = r.height; first = r.first; mbaff = r.mbaff; count = r.count; last = r.kept.items } };
 
-    ghost invariant = { λ r. AreCounts r.width r.height r.first r.count r.column r.kept.capacity (length r.kept.items) r.mbaff };
+    ghost invariant = { λ r. AreCounts r.width r.height r.first r.count r.column r.kept.capacity (length r.kept.items) r.mbaff × All K.Is r.kept.items };
 }
 
 impl<K: OfMb> Rows<K> {
@@ -137,7 +143,8 @@ impl<K: OfMb> Rows<K> {
     /// What is kept of the macroblock to the left of the next one (6.4.9), outside MBAFF.
     pub fn left(&self) -> Option<K>
         requires { self.now.mbaff ≡ false }
-        ensures { (shape : SliceShape) (mbs : List Mb) → AreRows K.of shape self.now mbs → result ≡ kept_at K.of mbs (slice.left_number shape.width shape.first (length mbs)) }
+        ensures value { (shape : SliceShape) (mbs : List Mb) → AreRows K.of shape self.now mbs → result ≡ kept_at K.of mbs (slice.left_number shape.width shape.first (length mbs)) }
+        ensures is { IfSome result K.Is }
     {
         if self.column == 0 {
             None
@@ -149,7 +156,8 @@ impl<K: OfMb> Rows<K> {
     /// What is kept of the macroblock above the next one (6.4.9), outside MBAFF.
     pub fn above(&self) -> Option<K>
         requires { self.now.mbaff ≡ false }
-        ensures { (shape : SliceShape) (mbs : List Mb) → AreRows K.of shape self.now mbs → result ≡ kept_at K.of mbs (slice.above_number shape.width (length mbs)) }
+        ensures value { (shape : SliceShape) (mbs : List Mb) → AreRows K.of shape self.now mbs → result ≡ kept_at K.of mbs (slice.above_number shape.width (length mbs)) }
+        ensures is { IfSome result K.Is }
     {
         self.kept.nth_back(self.width as usize - 1).copied()
     }
