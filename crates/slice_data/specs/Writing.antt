@@ -1,8 +1,10 @@
 -- What a writer of slice data stands for, in any entropy layer.
 use Rattle.std.specs.Prelude.{◌≡◌, Bool, true, false, List, [], ◌∷◌, ◌++◌, Result, Ok, Err}
 use Rattle.h264_types.specs.Valid.{IsSlice}
+use Rattle.h264_types.specs.declared.layer.Layer.{Layer}
 use Rattle.h264_types.specs.declared.macroblock.Mb.{Mb}
 use Rattle.h264_types.specs.declared.slice_shape.SliceShape.{SliceShape}
+use Rattle.slice_data.specs.WrittenForm.{written_mb}
 use Rattle.slice_data.specs.declared.fault.PutFault.{PutFault}
 use Rattle.slice_data.specs.declared.fault.PutFault.TheVariants.{Beyond, Memory}
 
@@ -10,9 +12,10 @@ use Rattle.slice_data.specs.declared.fault.PutFault.TheVariants.{Beyond, Memory}
 abbrev pub BeginsSlice : SliceShape → List Mb → Type 0
 BeginsSlice shape front = (tail : List Mb) × IsSlice shape (front ++ tail)
 
--- the macroblock and those put before begin the macroblocks of a slice
-abbrev pub MayPut : {W : Type 0} → (W → SliceShape → List Bool → List Mb → Type 0) → W → Mb → Type 0
-MayPut Writes writer mb = (shape : SliceShape) × (before : List Bool) × (done : List Mb) × Writes writer shape before done × BeginsSlice shape (done ++ mb ∷ [])
+-- the macroblock has the form in which the layer writes it, and with those put before begins the macroblocks of a slice
+abbrev pub MayPut : {W : Type 0} → Layer → (W → SliceShape → List Bool → List Mb → Type 0) → W → Mb → Type 0
+MayPut to Writes writer mb =
+    (mb ≡ written_mb to mb) × ((shape : SliceShape) × (before : List Bool) × (done : List Mb) × Writes writer shape before done × BeginsSlice shape (done ++ mb ∷ []))
 
 -- What `put` says of a macroblock behind those put before: it was put; or it has a level that can't be said in the layer, and
 -- was not; or there is no memory.

@@ -32,7 +32,7 @@ pub trait SliceWriter: Drop {
     /// Writes the next macroblock. Beyond: a level can't be said in this layer, and nothing was written; another macroblock may
     /// follow. Where memory runs out what was written isn't said.
     fn put(&mut self, mb: &Mb) -> Result<(), PutFault>
-        requires { MayPut writes self.old mb.now }
+        requires { MayPut LAYER writes self.old mb.now }
         ensures { (shape : SliceShape) (before : List Bool) (done : List Mb) → writes self.old shape before done
             → PutGives is_beyond writes self.new shape before done mb.now result };
 
