@@ -65,13 +65,13 @@ above_of-append shape done rest at field place wide before =
     ap (λ o. cond (nat_lt 0 (y_of place)) (Some (spot place at (x_of place) (y_of place - 1))) o)
     (cond-same shape.mbaff _ _ (above_in_rows shape at place) (λ mbaff. above_in_pairs-append shape done rest at field place wide (before mbaff)))
 
-cond-is :
+pub cond-is :
     {P : Type 0} (test : Bool) (one other : Option Spot) (found : Spot)
     → (IsTrue test → one ≡ Some found → P) → (other ≡ Some found → P) → cond test one other ≡ Some found → P
 cond-is true one other found first second is = first refl is
 cond-is false one other found first second is = second is
 
-option_map-is :
+pub option_map-is :
     {P : Type 0} (f : ℕ → Spot) (number : Option ℕ) (found : Spot)
     → ((k : ℕ) → number ≡ Some k → f k ≡ found → P) → option_map f number ≡ Some found → P
 option_map-is f (Some k) found here is = here k refl (same_Some _ _ is)
@@ -100,14 +100,14 @@ own_block :
 own_block at place x y found less is =
     subst (λ s. IsBefore s at place) (same_Some _ _ is) (omega arith, λ same. less)
 
-half_of_left :
+pub half_of_left :
     (field left_field : Bool) (bottom y height : ℕ) → bottom < 2 → left_half field left_field bottom y height < 2
 half_of_left field left_field bottom y height low = grind (arith, nat_tests)
 
-half_above : (field above_field : Bool) (bottom : ℕ) → bottom < 2 → above_half field above_field bottom < 2
+pub half_above : (field above_field : Bool) (bottom : ℕ) → bottom < 2 → above_half field above_field bottom < 2
 half_above field above_field bottom low = grind (arith, nat_tests)
 
-above_bottom : (field : Bool) (at : ℕ) → IsTrue (not field && at % 2 == 1) → at - 1 < at
+pub above_bottom : (field : Bool) (at : ℕ) → IsTrue (not field && at % 2 == 1) → at - 1 < at
 above_bottom field at lower = grind (arith, nat_tests)
 
 in_left_pair :

@@ -1,39 +1,47 @@
 // Neighbours between the pairs of a macroblock-adaptive frame (6.4.10, 6.4.12.2).
-ghost use Rattle.std.specs.Prelude.{◌≡◌, ◌+◌, ◌*◌, ◌%◌, ◌^◌, ◌<◌, ◌≤◌, length, IfSome};
-ghost use Rattle.h264_types.specs.Slice.{IsInPicture};
-ghost use Rattle.mb_neighbours.specs.Place.{IsPlace};
+ghost use Rattle.std.specs.Prelude.{◌≡◌, ◌+◌, ◌*◌, ◌%◌, ◌^◌, ◌<◌, ◌≤◌, true, List, IfSome};
+ghost use Rattle.h264_types.specs.LastRows.{AreRows, IsRecent, StandsAt};
+ghost use Rattle.h264_types.specs.Slice.{IsInPicture, field_at};
+ghost use Rattle.h264_types.specs.declared.macroblock.Mb.{Mb};
+ghost use Rattle.h264_types.specs.declared.slice_shape.SliceShape.{SliceShape};
+ghost use Rattle.mb_neighbours.specs.Place.{IsPlace, count_of};
 ghost use Rattle.mb_neighbours.specs.Pair.{left_half, left_row, above_half};
 ghost use Rattle.mb_neighbours.specs.Near.{left_in_pair, left_in_pairs, above_in_pairs};
 
 use crate::place::{At, Spot};
-use h264_types::slice_order::{above_number, is_field_at, left_number};
-use h264_types::{Mb, SliceShape};
+use h264_types::slice_order::above_number;
+use h264_types::{Mb, Rows, SliceShape};
 
-pub(crate) fn in_left_pair(
-    shape: &SliceShape,
-    done: &[Mb],
-    at: u32,
-    field: bool,
-    place: At,
-) -> Option<Spot>
-    requires picture { IsInPicture shape.now at }
-    requires done { at ≤ length done.now + at % 2 }
-    requires place { IsPlace place }
-    ensures { result ≡ left_in_pairs shape.now done.now at field place }
+/// mb_field_decoding_flag of a macroblock of the last two rows.
+fn is_field_at(done: &Rows<Mb>, number: u32) -> bool
+    ensures { (shape : SliceShape) (mbs : List Mb) → AreRows (λ mb. mb) shape done.now mbs → IsRecent done.now number → result ≡ field_at mbs number }
 {
-    let pair = left_number(shape.width, shape.first / 2, at as usize / 2)?;
-    Some(spot_in_left_pair(done, pair as u32, at % 2, field, place))
+    match done.get(number) {
+        Some(mb) => mb.field,
+        None => false,
+    }
 }
 
-fn spot_in_left_pair(done: &[Mb], pair: u32, bottom: u32, field: bool, place: At) -> Spot
-    requires done { 2 * pair < length done.now }
+pub(crate) fn in_left_pair(done: &Rows<Mb>, at: u32, field: bool, place: At) -> Option<Spot>
+    requires place { IsPlace place }
+    ensures value { (shape : SliceShape) (mbs : List Mb) → shape.mbaff ≡ true → StandsAt (λ mb. mb) shape done.now mbs at → result ≡ left_in_pairs shape mbs at field place }
+    ensures before { IfSome result (λ found. found.mb < at) }
+    ensures block { IfSome result (λ found. found.block < count_of place) }
+{
+    let pair = done.left_number(at / 2)?;
+    Some(spot_in_left_pair(done, pair, at % 2, field, place))
+}
+
+fn spot_in_left_pair(done: &Rows<Mb>, pair: u32, bottom: u32, field: bool, place: At) -> Spot
     requires fits { 2 * pair + 1 < 2 ^ 32 }
     requires bottom { bottom < 2 }
     requires place { IsPlace place }
-    ensures { result ≡ left_in_pair done.now pair bottom field place }
+    ensures value { (shape : SliceShape) (mbs : List Mb) → AreRows (λ mb. mb) shape done.now mbs → IsRecent done.now (2 * pair) → result ≡ left_in_pair mbs pair bottom field place }
+    ensures pair { result.mb ≤ 2 * pair + 1 }
+    ensures block { result.block < count_of place }
 {
     let size = place.size();
-    let left_field = is_field_at(done, 2 * pair as usize);
+    let left_field = is_field_at(done, 2 * pair);
     let beside = row_of_left_pair(field, left_field, bottom as u8, place.y(), size);
     place.spot(2 * pair + u32::from(beside.half), size - 1, beside.row)
 }
@@ -87,24 +95,24 @@ pub(crate) fn row_of_left_pair(
 
 pub(crate) fn in_pair_above(
     shape: &SliceShape,
-    done: &[Mb],
+    done: &Rows<Mb>,
     at: u32,
     field: bool,
     place: At,
 ) -> Option<Spot>
     requires picture { IsInPicture shape.now at }
-    requires done { at ≤ length done.now + at % 2 }
     requires place { IsPlace place }
-    ensures value { result ≡ above_in_pairs shape.now done.now at field place }
+    ensures value { (mbs : List Mb) → shape.now.mbaff ≡ true → StandsAt (λ mb. mb) shape.now done.now mbs at → result ≡ above_in_pairs shape.now mbs at field place }
     ensures before { IfSome result (λ found. found.mb < at) }
+    ensures block { IfSome result (λ found. found.block < count_of place) }
 {
     let bottom = at % 2;
     if !field && bottom == 1 {
         return Some(place.lowest(at - 1));
     }
-    let pair = above_number(shape.width, at as usize / 2)?;
+    let pair = above_number(shape.width, at as usize / 2)? as u32;
     let half = half_of_pair_above(field, is_field_at(done, 2 * pair), bottom);
-    Some(place.lowest(2 * pair as u32 + half))
+    Some(place.lowest(2 * pair + half))
 }
 
 fn half_of_pair_above(field: bool, above_field: bool, bottom: u32) -> u32

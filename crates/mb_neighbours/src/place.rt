@@ -83,9 +83,10 @@ impl At {
 
     /// The block of macroblock `mb` that has the sample in column x, row y.
     pub(crate) fn spot(self, mb: u32, x: u8, y: u8) -> Spot
-        requires x { x < 16 }
-        requires y { y < 16 }
-        ensures { result ≡ spot self mb x y }
+        requires x { x < place.size_of self }
+        requires y { y < place.size_of self }
+        ensures value { result ≡ spot self mb x y }
+        ensures block { result.block < place.count_of self }
     {
         Spot {
             mb,
@@ -96,7 +97,8 @@ impl At {
     /// The block at the lowest row of macroblock `mb`.
     pub(crate) fn lowest(self, mb: u32) -> Spot
         requires { place.IsPlace self }
-        ensures { result ≡ lowest self mb }
+        ensures value { result ≡ lowest self mb }
+        ensures block { result.block < place.count_of self }
     {
         self.spot(mb, self.x(), self.size() - 1)
     }
