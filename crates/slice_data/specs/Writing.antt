@@ -4,6 +4,7 @@ use Rattle.h264_types.specs.Valid.{IsSlice}
 use Rattle.h264_types.specs.declared.layer.Layer.{Layer}
 use Rattle.h264_types.specs.declared.macroblock.Mb.{Mb}
 use Rattle.h264_types.specs.declared.slice_shape.SliceShape.{SliceShape}
+use Rattle.init_table.specs.declared.table.InitTable.{InitTable}
 use Rattle.slice_data.specs.WrittenForm.{written_mb}
 use Rattle.slice_data.specs.declared.fault.PutFault.{PutFault}
 use Rattle.slice_data.specs.declared.fault.PutFault.TheVariants.{Beyond, Memory}
@@ -13,9 +14,10 @@ abbrev pub BeginsSlice : SliceShape → List Mb → Type 0
 BeginsSlice shape front = (tail : List Mb) × IsSlice shape (front ++ tail)
 
 -- the macroblock has the form in which the layer writes it, and with those put before begins the macroblocks of a slice
-abbrev pub MayPut : {W : Type 0} → Layer → (W → SliceShape → List Bool → List Mb → Type 0) → W → Mb → Type 0
+abbrev pub MayPut : {W : Type 0} → Layer → (InitTable → W → SliceShape → List Bool → List Mb → Type 0) → W → Mb → Type 0
 MayPut to Writes writer mb =
-    (mb ≡ written_mb to mb) × ((shape : SliceShape) × (before : List Bool) × (done : List Mb) × Writes writer shape before done × BeginsSlice shape (done ++ mb ∷ []))
+    (mb ≡ written_mb to mb)
+    × ((init : InitTable) × (shape : SliceShape) × (before : List Bool) × (done : List Mb) × Writes init writer shape before done × BeginsSlice shape (done ++ mb ∷ []))
 
 -- What `put` says of a macroblock behind those put before: it was put; or it has a level that can't be said in the layer, and
 -- was not; or there is no memory.

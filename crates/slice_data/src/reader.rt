@@ -12,19 +12,20 @@ pub enum Step {
 ///
 /// Of its entropy layer the ghost members say which lists of macroblocks have slice data in it (`has_data`), and which bits
 /// are those of a list, with so many bits of the slice before them (`is_data`); of the reader what it stands for (`stands`)
-/// and the bits that are left in its source (`left`).
+/// and the bits that are left in its source (`left`). Slice data in CABAC rest on the table of initial pairs.
 pub trait SliceReader: Drop {
     ghost use Rattle.std.specs.Prelude.{ℕ, Bool, List};
     ghost use Rattle.h264_types.specs.Valid.{IsSlice};
     ghost use Rattle.h264_types.specs.declared.macroblock.Mb.{Mb};
     ghost use Rattle.h264_types.specs.declared.slice_shape.SliceShape.{SliceShape};
+    ghost use Rattle.init_table.specs.declared.table.InitTable.{InitTable};
     ghost use Rattle.slice_data.specs.Reading.{NextGives, step_of};
 
     ghost has_data: { SliceShape → List Mb → Type 0 };
 
-    ghost is_data: { SliceShape → ℕ → List Mb → List Bool → Type 0 };
+    ghost is_data: { InitTable → SliceShape → ℕ → List Mb → List Bool → Type 0 };
 
-    ghost stands: { Self → SliceShape → ℕ → List Bool → List Mb → Type 0 };
+    ghost stands: { InitTable → Self → SliceShape → ℕ → List Bool → List Mb → Type 0 };
 
     ghost left: { Self → List Bool };
 
@@ -32,13 +33,13 @@ pub trait SliceReader: Drop {
     /// NoReading: no list of macroblocks has the bits behind the header as its data. After a refusal what the reader and
     /// `mb` hold isn't said.
     fn next_into(&mut self, mb: &mut Mb) -> Result<bool, SliceFault>
-        ensures { (shape : SliceShape) (pos : ℕ) (all : List Bool) (done : List Mb) → stands self.old shape pos all done
-            → NextGives has_data is_data stands left self.new shape pos all done (step_of mb.new result) };
+        ensures { (init : InitTable) (shape : SliceShape) (pos : ℕ) (all : List Bool) (done : List Mb) → stands init self.old shape pos all done
+            → NextGives has_data (is_data init) (stands init) left self.new shape pos all done (step_of mb.new result) };
 
     /// The next macroblock, or the end of the slice, as `next_into`.
     final fn next(&mut self) -> Result<Step, SliceFault>
-        ensures { (shape : SliceShape) (pos : ℕ) (all : List Bool) (done : List Mb) → stands self.old shape pos all done
-            → NextGives has_data is_data stands left self.new shape pos all done result }
+        ensures { (init : InitTable) (shape : SliceShape) (pos : ℕ) (all : List Bool) (done : List Mb) → stands init self.old shape pos all done
+            → NextGives has_data (is_data init) (stands init) left self.new shape pos all done result }
     {
         let mut mb = Mb::without_elements(MbKind::Skip);
         match self.next_into(&mut mb) {
