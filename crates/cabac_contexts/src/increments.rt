@@ -1,21 +1,23 @@
-ghost use Rattle.std.specs.Prelude.{◌≡◌, ◌<◌, ◌≤◌, length};
+ghost use Rattle.std.specs.Prelude.{◌≡◌, ◌<◌, ◌≤◌, List};
+ghost use Rattle.h264_types.specs.LastRows.{StandsAt};
+ghost use Rattle.h264_types.specs.declared.macroblock.Mb.{Mb};
 ghost use Rattle.h264_types.specs.Slice.{IsInPicture};
 ghost use Rattle.mb_neighbours.specs.Place.{IsPlace, count_of};
 ghost use Rattle.cabac_contexts.specs.Terms.{HasComponent, blocks_of};
 ghost use Rattle.cabac_contexts.specs.Increments as inc;
 
 use crate::term::{Term, flags};
-use h264_types::{Mb, SliceShape};
+use h264_types::{Mb, Rows, SliceShape};
 use mb_neighbours::At;
 
 /// The increment of the first bin of mb_type in an I slice, 0 to 2 (9.3.3.1.1.3).
 ///
-/// For this call and those below: `done` has the macroblocks of the slice before number `at`; `mb` is the current one, as far
-/// as it was read; `field` is its pair flag, false outside MBAFF.
-pub fn ctx_inc_type_i(shape: &SliceShape, done: &[Mb], at: u32, field: bool, mb: &Mb) -> u8
+/// For this call and those below: `done` has the last two rows of the slice's macroblocks, of which number `at` is the next
+/// one or the last one, in MBAFF in the pair of one of them; `mb` is number `at` as far as it was read; `field` is its pair
+/// flag, false outside MBAFF.
+pub fn ctx_inc_type_i(shape: &SliceShape, done: &Rows<Mb>, at: u32, field: bool, mb: &Mb) -> u8
     requires picture { IsInPicture shape.now at }
-    requires done { at ≤ length done.now }
-    ensures value { result ≡ inc.type_i shape.now done.now at field mb.now }
+    ensures value { (mbs : List Mb) → StandsAt (λ mb. mb) shape.now done.now mbs at → result ≡ inc.type_i shape.now mbs at field mb.now }
     ensures bound { result < 3 }
 {
     let place = At::Whole;
@@ -23,10 +25,9 @@ pub fn ctx_inc_type_i(shape: &SliceShape, done: &[Mb], at: u32, field: bool, mb:
 }
 
 /// The increment of the first bin of intra_chroma_pred_mode, 0 to 2 (9.3.3.1.1.8).
-pub fn ctx_inc_chroma_mode(shape: &SliceShape, done: &[Mb], at: u32, field: bool, mb: &Mb) -> u8
+pub fn ctx_inc_chroma_mode(shape: &SliceShape, done: &Rows<Mb>, at: u32, field: bool, mb: &Mb) -> u8
     requires picture { IsInPicture shape.now at }
-    requires done { at ≤ length done.now }
-    ensures value { result ≡ inc.chroma_mode shape.now done.now at field mb.now }
+    ensures value { (mbs : List Mb) → StandsAt (λ mb. mb) shape.now done.now mbs at → result ≡ inc.chroma_mode shape.now mbs at field mb.now }
     ensures bound { result < 3 }
 {
     let place = At::Whole;
@@ -35,22 +36,20 @@ pub fn ctx_inc_chroma_mode(shape: &SliceShape, done: &[Mb], at: u32, field: bool
 
 /// The increment of the first bin of mb_qp_delta, 0 or 1: whether the macroblock before in the slice sent an
 /// mb_qp_delta other than 0 (9.3.3.1.1.5).
-pub fn ctx_inc_qp_delta(_shape: &SliceShape, done: &[Mb], at: u32, _field: bool, _mb: &Mb) -> u8
-    requires { at ≤ length done.now }
-    ensures value { result ≡ inc.qp_delta done.now at }
+pub fn ctx_inc_qp_delta(_shape: &SliceShape, done: &Rows<Mb>, at: u32, _field: bool, _mb: &Mb) -> u8
+    ensures value { (mbs : List Mb) → StandsAt (λ mb. mb) _shape.now done.now mbs at → result ≡ inc.qp_delta mbs at }
     ensures bound { result < 2 }
 {
-    if at == 0 {
+    let Some(number) = at.checked_sub(1) else {
         return 0;
-    }
-    u8::from(done[at as usize - 1].qp_delta != 0)
+    };
+    u8::from(done.get(number).is_some_and(|before| before.qp_delta != 0))
 }
 
 /// The increment of transform_size_8x8_flag, 0 to 2 (9.3.3.1.1.10).
-pub fn ctx_inc_t8(shape: &SliceShape, done: &[Mb], at: u32, field: bool, mb: &Mb) -> u8
+pub fn ctx_inc_t8(shape: &SliceShape, done: &Rows<Mb>, at: u32, field: bool, mb: &Mb) -> u8
     requires picture { IsInPicture shape.now at }
-    requires done { at ≤ length done.now }
-    ensures value { result ≡ inc.t8 shape.now done.now at field mb.now }
+    ensures value { (mbs : List Mb) → StandsAt (λ mb. mb) shape.now done.now mbs at → result ≡ inc.t8 shape.now mbs at field mb.now }
     ensures bound { result < 3 }
 {
     let place = At::Whole;
@@ -61,16 +60,15 @@ pub fn ctx_inc_t8(shape: &SliceShape, done: &[Mb], at: u32, field: bool, mb: &Mb
 /// before.
 pub fn ctx_inc_luma(
     shape: &SliceShape,
-    done: &[Mb],
+    done: &Rows<Mb>,
     at: u32,
     field: bool,
     mb: &Mb,
     quarter: u8,
 ) -> u8
     requires picture { IsInPicture shape.now at }
-    requires done { at ≤ length done.now }
     requires quarter { quarter < 4 }
-    ensures value { result ≡ inc.luma shape.now done.now at field mb.now quarter }
+    ensures value { (mbs : List Mb) → StandsAt (λ mb. mb) shape.now done.now mbs at → result ≡ inc.luma shape.now mbs at field mb.now quarter }
     ensures bound { result < 4 }
 {
     let place = At::Luma8(quarter);
@@ -80,15 +78,14 @@ pub fn ctx_inc_luma(
 /// The increment of the first or the second bin of chroma in coded_block_pattern, 0 to 3 (9.3.3.1.1.4).
 pub fn ctx_inc_chroma(
     shape: &SliceShape,
-    done: &[Mb],
+    done: &Rows<Mb>,
     at: u32,
     field: bool,
     mb: &Mb,
     second: bool,
 ) -> u8
     requires picture { IsInPicture shape.now at }
-    requires done { at ≤ length done.now }
-    ensures value { result ≡ inc.chroma shape.now done.now at field mb.now second }
+    ensures value { (mbs : List Mb) → StandsAt (λ mb. mb) shape.now done.now mbs at → result ≡ inc.chroma shape.now mbs at field mb.now second }
     ensures bound { result < 4 }
 {
     let term = if second { Term::ChromaAc } else { Term::Chroma };
@@ -100,7 +97,7 @@ pub fn ctx_inc_chroma(
 /// `mb` has its pattern and the levels of the blocks before.
 pub fn ctx_inc_block(
     shape: &SliceShape,
-    done: &[Mb],
+    done: &Rows<Mb>,
     at: u32,
     field: bool,
     mb: &Mb,
@@ -109,9 +106,8 @@ pub fn ctx_inc_block(
     block: u8,
 ) -> u8
     requires picture { IsInPicture shape.now at }
-    requires done { at ≤ length done.now }
     requires block { inc.IsBlock cat comp block }
-    ensures value { result ≡ inc.coded_block shape.now done.now at field mb.now cat comp block }
+    ensures value { (mbs : List Mb) → StandsAt (λ mb. mb) shape.now done.now mbs at → result ≡ inc.coded_block shape.now mbs at field mb.now cat comp block }
     ensures bound { result < 4 }
 {
     let (place, term) = block_place(cat, comp, block);

@@ -1,10 +1,13 @@
 // What neighbouring macroblocks and blocks say of a bin's context (9.3.3.1.1).
-ghost use Rattle.std.specs.Prelude.{◌≡◌, ◌<◌, ◌≤◌, length, IfSome, Bool, ℤ};
+ghost use Rattle.std.specs.Prelude.{◌≡◌, ◌<◌, ◌≤◌, List, IfSome};
+ghost use Rattle.h264_types.specs.LastRows.{AreRows, IsRecent, StandsAt};
+ghost use Rattle.h264_types.specs.declared.macroblock.Mb.{Mb};
+ghost use Rattle.h264_types.specs.declared.slice_shape.SliceShape.{SliceShape};
 ghost use Rattle.h264_types.specs.Slice.{IsInPicture};
 ghost use Rattle.mb_neighbours.specs.Place.{IsPlace, count_of};
 ghost use Rattle.cabac_contexts.specs.Terms.{HasComponent, blocks_of, has_level, has_luma, term_of, flag_at, flag_a, flag_b};
 
-use h264_types::{Mb, SliceShape};
+use h264_types::{Mb, Rows, SliceShape};
 use mb_neighbours::{At, Spot, above, left};
 
 /// What a neighbouring macroblock or block is asked; its answer is condTermFlagN.
@@ -36,7 +39,7 @@ pub enum Term {
 /// available.
 pub(crate) fn flags(
     shape: &SliceShape,
-    done: &[Mb],
+    done: &Rows<Mb>,
     at: u32,
     field: bool,
     mb: &Mb,
@@ -45,12 +48,11 @@ pub(crate) fn flags(
     missing: bool,
 ) -> (bool, bool)
     requires picture { IsInPicture shape.now at }
-    requires done { at ≤ length done.now }
     requires place { IsPlace place }
     requires blocks { count_of place ≤ blocks_of term }
     requires component { HasComponent term }
-    ensures a { result.0 ≡ flag_a missing term shape.now done.now at field mb.now place }
-    ensures b { result.1 ≡ flag_b missing term shape.now done.now at field mb.now place }
+    ensures a { (mbs : List Mb) → StandsAt (λ mb. mb) shape.now done.now mbs at → result.0 ≡ flag_a missing term shape.now mbs at field mb.now place }
+    ensures b { (mbs : List Mb) → StandsAt (λ mb. mb) shape.now done.now mbs at → result.1 ≡ flag_b missing term shape.now mbs at field mb.now place }
 {
     let a = left(shape, done, at, field, place);
     let b = above(shape, done, at, field, place);
@@ -61,20 +63,21 @@ pub(crate) fn flags(
 }
 
 /// condTermFlagN of a neighbour, where it was found.
-fn flag(done: &[Mb], at: u32, mb: &Mb, found: Option<Spot>, term: Term, missing: bool) -> bool
-    requires done { at ≤ length done.now }
-    requires before { IfSome found (λ spot. spot.mb ≤ at) }
+fn flag(done: &Rows<Mb>, at: u32, mb: &Mb, found: Option<Spot>, term: Term, missing: bool) -> bool
     requires block { IfSome found (λ spot. spot.block < blocks_of term) }
     requires component { HasComponent term }
-    ensures { result ≡ flag_at missing term done.now at mb.now found }
+    ensures { (shape : SliceShape) (mbs : List Mb) → AreRows (λ mb. mb) shape done.now mbs → IfSome found (λ spot. IsRecent done.now spot.mb)
+        → result ≡ flag_at missing term mbs at mb.now found }
 {
     let Some(spot) = found else {
         return missing;
     };
     if spot.mb == at {
-        answer(mb, spot.block, term)
-    } else {
-        answer(&done[spot.mb as usize], spot.block, term)
+        return answer(mb, spot.block, term);
+    }
+    match done.get(spot.mb) {
+        Some(neighbour) => answer(neighbour, spot.block, term),
+        None => missing,
     }
 }
 
