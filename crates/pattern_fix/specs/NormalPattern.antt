@@ -1,7 +1,7 @@
 -- coded_block_pattern in the form that both entropy codings can say (7.3.5, 7.4.5).
 --
 -- Bit q of CodedBlockPatternLuma is 1 where the levels of 8x8 luma block q are sent. With transform_size_8x8_flag CAVLC
--- sends them as four lists of 16, and each may be all 0 (7.3.5.3.2, 9.2). CABAC sends one list of 64, without a
+-- sends them as four lists of 16, and each may be all 0 (7.3.5.3.1, 9.2). CABAC sends one list of 64, without a
 -- coded_block_flag and so with a level other than 0 (7.3.5.3.3). In the normal form the bit is 0 where all 64 levels are.
 -- Every other bit of luma and all of chroma stays.
 use Rattle.std.specs.Prelude.{◌≡◌, ◌≢◌, ℕ, ◌+◌, ◌-◌, ◌*◌, ◌^◌, Bool, true, not, ◌&&◌, ◌==◌, if◌then◌else◌, ℤ, pos, List}
