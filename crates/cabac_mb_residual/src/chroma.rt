@@ -1,9 +1,11 @@
-ghost use Rattle.std.specs.Prelude.{◌≡◌, ◌<◌, ◌≤◌, ◌+◌, ◌*◌, false, true, length, option_map, OnOk, OnSome, OnErr};
+ghost use Rattle.std.specs.Prelude.{◌≡◌, ◌<◌, ◌+◌, ◌*◌, false, true, option_map, OnOk, OnSome, OnErr, List};
 ghost use Rattle.binarisation.specs.BinString.{Reads, Writes};
 ghost use Rattle.binarisation.specs.Each.{each};
 ghost use Rattle.h264_types.specs.Macroblock.{pattern_of};
 ghost use Rattle.h264_types.specs.Sizes.{HasSizes};
 ghost use Rattle.h264_types.specs.Slice.{IsInPicture};
+ghost use Rattle.h264_types.specs.LastRows.{StandsAt};
+ghost use Rattle.h264_types.specs.declared.macroblock.Mb.{Mb};
 ghost use Rattle.cabac_mb_residual.specs.MacroblockResidual as layer;
 ghost use Rattle.cabac_mb_residual.specs.Levels.{IsResidual, so_far};
 
@@ -11,24 +13,24 @@ use crate::luma::is_field;
 use cabac_contexts::ctx_inc_block;
 use cabac_engine::{BinSink, BinSource};
 use cabac_residual::{read_levels, write_levels};
-use h264_types::{Mb, SliceShape};
+use h264_types::{Mb, Rows, SliceShape};
 use std::alloc::AllocError as Memory;
 
 /// Reads ChromaDCLevel of a component, if the pattern has chroma.
 fn read_dc_of<S: BinSource>(
     s: &mut S,
     shape: &SliceShape,
-    done: &[Mb],
+    done: &Rows<Mb>,
     at: u32,
     comp: u8,
     mb: &mut Mb,
 ) -> Option<()>
     requires going { S.over s.old ≡ false }
     requires picture { IsInPicture shape.now at }
-    requires done { at ≤ length done.now }
     requires comp { comp < 2 }
-    ensures reads { Reads S.step (layer.chroma_dc shape.now done.now at comp mb.old) (option_map (λ _. mb.new) result) s.old s.new }
+    ensures reads { (mbs : List Mb) → StandsAt (λ mb. mb) shape.now done.now mbs at → Reads S.step (layer.chroma_dc shape.now mbs at comp mb.old) (option_map (λ _. mb.new) result) s.old s.new }
     ensures going { OnSome result (S.over s.new ≡ false) }
+    ensures kind { mb.new.kind ≡ mb.old.kind }
 {
     if mb.coded_pattern().chroma == 0 {
         return Some(());
@@ -42,15 +44,15 @@ fn read_dc_of<S: BinSource>(
 pub fn read_chroma_dc<S: BinSource>(
     s: &mut S,
     shape: &SliceShape,
-    done: &[Mb],
+    done: &Rows<Mb>,
     at: u32,
     mb: &mut Mb,
 ) -> Option<()>
     requires going { S.over s.old ≡ false }
     requires picture { IsInPicture shape.now at }
-    requires done { at ≤ length done.now }
-    ensures reads { Reads S.step (each 2 (layer.chroma_dc shape.now done.now at) 0 mb.old) (option_map (λ _. mb.new) result) s.old s.new }
+    ensures reads { (mbs : List Mb) → StandsAt (λ mb. mb) shape.now done.now mbs at → Reads S.step (each 2 (layer.chroma_dc shape.now mbs at) 0 mb.old) (option_map (λ _. mb.new) result) s.old s.new }
     ensures going { OnSome result (S.over s.new ≡ false) }
+    ensures kind { mb.new.kind ≡ mb.old.kind }
 {
     for comp in 0..2u8 {
         read_dc_of(s, shape, done, at, comp, mb)?;
@@ -62,7 +64,7 @@ pub fn read_chroma_dc<S: BinSource>(
 fn read_block<S: BinSource>(
     s: &mut S,
     shape: &SliceShape,
-    done: &[Mb],
+    done: &Rows<Mb>,
     at: u32,
     comp: u8,
     n: u8,
@@ -70,11 +72,11 @@ fn read_block<S: BinSource>(
 ) -> Option<()>
     requires going { S.over s.old ≡ false }
     requires picture { IsInPicture shape.now at }
-    requires done { at ≤ length done.now }
     requires comp { comp < 2 }
     requires n { n < 4 }
-    ensures reads { Reads S.step (layer.chroma_block shape.now done.now at comp n mb.old) (option_map (λ _. mb.new) result) s.old s.new }
+    ensures reads { (mbs : List Mb) → StandsAt (λ mb. mb) shape.now done.now mbs at → Reads S.step (layer.chroma_block shape.now mbs at comp n mb.old) (option_map (λ _. mb.new) result) s.old s.new }
     ensures going { OnSome result (S.over s.new ≡ false) }
+    ensures kind { mb.new.kind ≡ mb.old.kind }
 {
     let inc = ctx_inc_block(shape, done, at, mb.field, mb, 4, comp, n);
     let field = is_field(shape, mb);
@@ -86,17 +88,17 @@ fn read_block<S: BinSource>(
 fn read_ac_of<S: BinSource>(
     s: &mut S,
     shape: &SliceShape,
-    done: &[Mb],
+    done: &Rows<Mb>,
     at: u32,
     comp: u8,
     mb: &mut Mb,
 ) -> Option<()>
     requires going { S.over s.old ≡ false }
     requires picture { IsInPicture shape.now at }
-    requires done { at ≤ length done.now }
     requires comp { comp < 2 }
-    ensures reads { Reads S.step (layer.chroma_ac shape.now done.now at comp mb.old) (option_map (λ _. mb.new) result) s.old s.new }
+    ensures reads { (mbs : List Mb) → StandsAt (λ mb. mb) shape.now done.now mbs at → Reads S.step (layer.chroma_ac shape.now mbs at comp mb.old) (option_map (λ _. mb.new) result) s.old s.new }
     ensures going { OnSome result (S.over s.new ≡ false) }
+    ensures kind { mb.new.kind ≡ mb.old.kind }
 {
     if mb.coded_pattern().chroma != 2 {
         return Some(());
@@ -111,15 +113,15 @@ fn read_ac_of<S: BinSource>(
 pub fn read_chroma_ac<S: BinSource>(
     s: &mut S,
     shape: &SliceShape,
-    done: &[Mb],
+    done: &Rows<Mb>,
     at: u32,
     mb: &mut Mb,
 ) -> Option<()>
     requires going { S.over s.old ≡ false }
     requires picture { IsInPicture shape.now at }
-    requires done { at ≤ length done.now }
-    ensures reads { Reads S.step (each 2 (layer.chroma_ac shape.now done.now at) 0 mb.old) (option_map (λ _. mb.new) result) s.old s.new }
+    ensures reads { (mbs : List Mb) → StandsAt (λ mb. mb) shape.now done.now mbs at → Reads S.step (each 2 (layer.chroma_ac shape.now mbs at) 0 mb.old) (option_map (λ _. mb.new) result) s.old s.new }
     ensures going { OnSome result (S.over s.new ≡ false) }
+    ensures kind { mb.new.kind ≡ mb.old.kind }
 {
     for comp in 0..2u8 {
         read_ac_of(s, shape, done, at, comp, mb)?;
@@ -131,18 +133,17 @@ pub fn read_chroma_ac<S: BinSource>(
 fn write_dc_of<S: BinSink>(
     s: &mut S,
     shape: &SliceShape,
-    done: &[Mb],
+    done: &Rows<Mb>,
     at: u32,
     comp: u8,
     mb: &Mb,
 ) -> Result<(), Memory>
     requires going { S.over s.old ≡ false }
     requires picture { IsInPicture shape.now at }
-    requires done { at ≤ length done.now }
     requires comp { comp < 2 }
     requires sizes { HasSizes mb.now }
     requires residual { IsResidual mb.now }
-    ensures writes { OnOk result (Writes S.step (layer.chroma_dc shape.now done.now at comp (so_far 16 256 (4 * comp) 0 mb.now)) (so_far 16 256 (4 * (comp + 1)) 0 mb.now) s.old s.new) }
+    ensures writes { (mbs : List Mb) → StandsAt (λ mb. mb) shape.now done.now mbs at → OnOk result (Writes S.step (layer.chroma_dc shape.now mbs at comp (so_far 16 256 (4 * comp) 0 mb.now)) (so_far 16 256 (4 * (comp + 1)) 0 mb.now) s.old s.new) }
     ensures going { OnOk result (S.over s.new ≡ false) }
     ensures err { OnErr result (S.over s.new ≡ true) }
 {
@@ -158,16 +159,15 @@ fn write_dc_of<S: BinSink>(
 pub fn write_chroma_dc<S: BinSink>(
     s: &mut S,
     shape: &SliceShape,
-    done: &[Mb],
+    done: &Rows<Mb>,
     at: u32,
     mb: &Mb,
 ) -> Result<(), Memory>
     requires going { S.over s.old ≡ false }
     requires picture { IsInPicture shape.now at }
-    requires done { at ≤ length done.now }
     requires sizes { HasSizes mb.now }
     requires residual { IsResidual mb.now }
-    ensures writes { OnOk result (Writes S.step (each 2 (layer.chroma_dc shape.now done.now at) 0 (so_far 16 256 0 0 mb.now)) (so_far 16 256 8 0 mb.now) s.old s.new) }
+    ensures writes { (mbs : List Mb) → StandsAt (λ mb. mb) shape.now done.now mbs at → OnOk result (Writes S.step (each 2 (layer.chroma_dc shape.now mbs at) 0 (so_far 16 256 0 0 mb.now)) (so_far 16 256 8 0 mb.now) s.old s.new) }
     ensures going { OnOk result (S.over s.new ≡ false) }
     ensures err { OnErr result (S.over s.new ≡ true) }
 {
@@ -181,7 +181,7 @@ pub fn write_chroma_dc<S: BinSink>(
 fn write_block<S: BinSink>(
     s: &mut S,
     shape: &SliceShape,
-    done: &[Mb],
+    done: &Rows<Mb>,
     at: u32,
     comp: u8,
     n: u8,
@@ -189,13 +189,12 @@ fn write_block<S: BinSink>(
 ) -> Result<(), Memory>
     requires going { S.over s.old ≡ false }
     requires picture { IsInPicture shape.now at }
-    requires done { at ≤ length done.now }
     requires comp { comp < 2 }
     requires n { n < 4 }
     requires sizes { HasSizes mb.now }
     requires residual { IsResidual mb.now }
     requires coded { (pattern_of mb.now).chroma ≡ 2 }
-    ensures writes { OnOk result (Writes S.step (layer.chroma_block shape.now done.now at comp n (so_far 16 256 8 (60 * comp + 15 * n) mb.now)) (so_far 16 256 8 (60 * comp + 15 * (n + 1)) mb.now) s.old s.new) }
+    ensures writes { (mbs : List Mb) → StandsAt (λ mb. mb) shape.now done.now mbs at → OnOk result (Writes S.step (layer.chroma_block shape.now mbs at comp n (so_far 16 256 8 (60 * comp + 15 * n) mb.now)) (so_far 16 256 8 (60 * comp + 15 * (n + 1)) mb.now) s.old s.new) }
     ensures going { OnOk result (S.over s.new ≡ false) }
     ensures err { OnErr result (S.over s.new ≡ true) }
 {
@@ -208,18 +207,17 @@ fn write_block<S: BinSink>(
 fn write_ac_of<S: BinSink>(
     s: &mut S,
     shape: &SliceShape,
-    done: &[Mb],
+    done: &Rows<Mb>,
     at: u32,
     comp: u8,
     mb: &Mb,
 ) -> Result<(), Memory>
     requires going { S.over s.old ≡ false }
     requires picture { IsInPicture shape.now at }
-    requires done { at ≤ length done.now }
     requires comp { comp < 2 }
     requires sizes { HasSizes mb.now }
     requires residual { IsResidual mb.now }
-    ensures writes { OnOk result (Writes S.step (layer.chroma_ac shape.now done.now at comp (so_far 16 256 8 (60 * comp) mb.now)) (so_far 16 256 8 (60 * (comp + 1)) mb.now) s.old s.new) }
+    ensures writes { (mbs : List Mb) → StandsAt (λ mb. mb) shape.now done.now mbs at → OnOk result (Writes S.step (layer.chroma_ac shape.now mbs at comp (so_far 16 256 8 (60 * comp) mb.now)) (so_far 16 256 8 (60 * (comp + 1)) mb.now) s.old s.new) }
     ensures going { OnOk result (S.over s.new ≡ false) }
     ensures err { OnErr result (S.over s.new ≡ true) }
 {
@@ -236,16 +234,15 @@ fn write_ac_of<S: BinSink>(
 pub fn write_chroma_ac<S: BinSink>(
     s: &mut S,
     shape: &SliceShape,
-    done: &[Mb],
+    done: &Rows<Mb>,
     at: u32,
     mb: &Mb,
 ) -> Result<(), Memory>
     requires going { S.over s.old ≡ false }
     requires picture { IsInPicture shape.now at }
-    requires done { at ≤ length done.now }
     requires sizes { HasSizes mb.now }
     requires residual { IsResidual mb.now }
-    ensures writes { OnOk result (Writes S.step (each 2 (layer.chroma_ac shape.now done.now at) 0 (so_far 16 256 8 0 mb.now)) (so_far 16 256 8 120 mb.now) s.old s.new) }
+    ensures writes { (mbs : List Mb) → StandsAt (λ mb. mb) shape.now done.now mbs at → OnOk result (Writes S.step (each 2 (layer.chroma_ac shape.now mbs at) 0 (so_far 16 256 8 0 mb.now)) (so_far 16 256 8 120 mb.now) s.old s.new) }
     ensures going { OnOk result (S.over s.new ≡ false) }
     ensures err { OnErr result (S.over s.new ≡ true) }
 {

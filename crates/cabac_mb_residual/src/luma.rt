@@ -1,16 +1,18 @@
-ghost use Rattle.std.specs.Prelude.{◌≡◌, ◌<◌, ◌≤◌, ◌+◌, ◌*◌, ◌/◌, false, true, length, option_map, OnOk, OnSome, OnErr};
+ghost use Rattle.std.specs.Prelude.{◌≡◌, ◌<◌, ◌+◌, ◌*◌, ◌/◌, false, true, option_map, OnOk, OnSome, OnErr, List};
 ghost use Rattle.binarisation.specs.BinString.{Reads, Writes};
 ghost use Rattle.binarisation.specs.Each.{each};
 ghost use Rattle.cabac_contexts.specs.Terms as terms;
 ghost use Rattle.h264_types.specs.Sizes.{HasSizes};
 ghost use Rattle.h264_types.specs.Slice.{IsInPicture};
+ghost use Rattle.h264_types.specs.LastRows.{StandsAt};
+ghost use Rattle.h264_types.specs.declared.macroblock.Mb.{Mb};
 ghost use Rattle.cabac_mb_residual.specs.MacroblockResidual as layer;
 ghost use Rattle.cabac_mb_residual.specs.Levels.{IsResidual, so_far};
 
 use cabac_contexts::ctx_inc_block;
 use cabac_engine::{BinSink, BinSource};
 use cabac_residual::{read_levels, write_levels};
-use h264_types::{Mb, MbKind, SliceShape};
+use h264_types::{Mb, MbKind, Rows, SliceShape};
 use std::alloc::AllocError as Memory;
 
 /// Whether the contexts are those of field coding (Table 9-34).
@@ -55,15 +57,15 @@ fn put_luma4(mb: &mut Mb, n: u8, block: &[i32; 16])
 pub fn read_luma_dc<S: BinSource>(
     s: &mut S,
     shape: &SliceShape,
-    done: &[Mb],
+    done: &Rows<Mb>,
     at: u32,
     mb: &mut Mb,
 ) -> Option<()>
     requires going { S.over s.old ≡ false }
     requires picture { IsInPicture shape.now at }
-    requires done { at ≤ length done.now }
-    ensures reads { Reads S.step (layer.luma_dc shape.now done.now at mb.old) (option_map (λ _. mb.new) result) s.old s.new }
+    ensures reads { (mbs : List Mb) → StandsAt (λ mb. mb) shape.now done.now mbs at → Reads S.step (layer.luma_dc shape.now mbs at mb.old) (option_map (λ _. mb.new) result) s.old s.new }
     ensures going { OnSome result (S.over s.new ≡ false) }
+    ensures kind { mb.new.kind ≡ mb.old.kind }
 {
     if !mb.kind.is_i_16x16() {
         return Some(());
@@ -77,17 +79,17 @@ pub fn read_luma_dc<S: BinSource>(
 fn read_luma4<S: BinSource>(
     s: &mut S,
     shape: &SliceShape,
-    done: &[Mb],
+    done: &Rows<Mb>,
     at: u32,
     n: u8,
     mb: &mut Mb,
 ) -> Option<()>
     requires going { S.over s.old ≡ false }
     requires picture { IsInPicture shape.now at }
-    requires done { at ≤ length done.now }
     requires n { n < 16 }
-    ensures reads { Reads S.step (layer.luma4 shape.now done.now at n mb.old) (option_map (λ _. mb.new) result) s.old s.new }
+    ensures reads { (mbs : List Mb) → StandsAt (λ mb. mb) shape.now done.now mbs at → Reads S.step (layer.luma4 shape.now mbs at n mb.old) (option_map (λ _. mb.new) result) s.old s.new }
     ensures going { OnSome result (S.over s.new ≡ false) }
+    ensures kind { mb.new.kind ≡ mb.old.kind }
 {
     let cat = luma_cat(mb.kind);
     let max = luma_max(mb.kind);
@@ -103,17 +105,17 @@ fn read_luma4<S: BinSource>(
 fn read_blocks<S: BinSource>(
     s: &mut S,
     shape: &SliceShape,
-    done: &[Mb],
+    done: &Rows<Mb>,
     at: u32,
     quarter: u8,
     mb: &mut Mb,
 ) -> Option<()>
     requires going { S.over s.old ≡ false }
     requires picture { IsInPicture shape.now at }
-    requires done { at ≤ length done.now }
     requires quarter { quarter < 4 }
-    ensures reads { Reads S.step (each 4 (layer.luma4 shape.now done.now at) (4 * quarter) mb.old) (option_map (λ _. mb.new) result) s.old s.new }
+    ensures reads { (mbs : List Mb) → StandsAt (λ mb. mb) shape.now done.now mbs at → Reads S.step (each 4 (layer.luma4 shape.now mbs at) (4 * quarter) mb.old) (option_map (λ _. mb.new) result) s.old s.new }
     ensures going { OnSome result (S.over s.new ≡ false) }
+    ensures kind { mb.new.kind ≡ mb.old.kind }
 {
     for k in 0..4u8 {
         read_luma4(s, shape, done, at, 4 * quarter + k, mb)?;
@@ -125,17 +127,17 @@ fn read_blocks<S: BinSource>(
 fn read_quarter<S: BinSource>(
     s: &mut S,
     shape: &SliceShape,
-    done: &[Mb],
+    done: &Rows<Mb>,
     at: u32,
     quarter: u8,
     mb: &mut Mb,
 ) -> Option<()>
     requires going { S.over s.old ≡ false }
     requires picture { IsInPicture shape.now at }
-    requires done { at ≤ length done.now }
     requires quarter { quarter < 4 }
-    ensures reads { Reads S.step (layer.quarter shape.now done.now at quarter mb.old) (option_map (λ _. mb.new) result) s.old s.new }
+    ensures reads { (mbs : List Mb) → StandsAt (λ mb. mb) shape.now done.now mbs at → Reads S.step (layer.quarter shape.now mbs at quarter mb.old) (option_map (λ _. mb.new) result) s.old s.new }
     ensures going { OnSome result (S.over s.new ≡ false) }
+    ensures kind { mb.new.kind ≡ mb.old.kind }
 {
     if !has_luma(mb, quarter) {
         return Some(());
@@ -151,15 +153,15 @@ fn read_quarter<S: BinSource>(
 pub fn read_luma<S: BinSource>(
     s: &mut S,
     shape: &SliceShape,
-    done: &[Mb],
+    done: &Rows<Mb>,
     at: u32,
     mb: &mut Mb,
 ) -> Option<()>
     requires going { S.over s.old ≡ false }
     requires picture { IsInPicture shape.now at }
-    requires done { at ≤ length done.now }
-    ensures reads { Reads S.step (each 4 (layer.quarter shape.now done.now at) 0 mb.old) (option_map (λ _. mb.new) result) s.old s.new }
+    ensures reads { (mbs : List Mb) → StandsAt (λ mb. mb) shape.now done.now mbs at → Reads S.step (each 4 (layer.quarter shape.now mbs at) 0 mb.old) (option_map (λ _. mb.new) result) s.old s.new }
     ensures going { OnSome result (S.over s.new ≡ false) }
+    ensures kind { mb.new.kind ≡ mb.old.kind }
 {
     for quarter in 0..4u8 {
         read_quarter(s, shape, done, at, quarter, mb)?;
@@ -171,16 +173,15 @@ pub fn read_luma<S: BinSource>(
 pub fn write_luma_dc<S: BinSink>(
     s: &mut S,
     shape: &SliceShape,
-    done: &[Mb],
+    done: &Rows<Mb>,
     at: u32,
     mb: &Mb,
 ) -> Result<(), Memory>
     requires going { S.over s.old ≡ false }
     requires picture { IsInPicture shape.now at }
-    requires done { at ≤ length done.now }
     requires sizes { HasSizes mb.now }
     requires residual { IsResidual mb.now }
-    ensures writes { OnOk result (Writes S.step (layer.luma_dc shape.now done.now at (so_far 0 0 0 0 mb.now)) (so_far 16 0 0 0 mb.now) s.old s.new) }
+    ensures writes { (mbs : List Mb) → StandsAt (λ mb. mb) shape.now done.now mbs at → OnOk result (Writes S.step (layer.luma_dc shape.now mbs at (so_far 0 0 0 0 mb.now)) (so_far 16 0 0 0 mb.now) s.old s.new) }
     ensures going { OnOk result (S.over s.new ≡ false) }
     ensures err { OnErr result (S.over s.new ≡ true) }
 {
@@ -195,19 +196,18 @@ pub fn write_luma_dc<S: BinSink>(
 fn write_luma4<S: BinSink>(
     s: &mut S,
     shape: &SliceShape,
-    done: &[Mb],
+    done: &Rows<Mb>,
     at: u32,
     n: u8,
     mb: &Mb,
 ) -> Result<(), Memory>
     requires going { S.over s.old ≡ false }
     requires picture { IsInPicture shape.now at }
-    requires done { at ≤ length done.now }
     requires n { n < 16 }
     requires sizes { HasSizes mb.now }
     requires residual { IsResidual mb.now }
     requires coded { terms.has_luma mb.now (n / 4) ≡ true }
-    ensures writes { OnOk result (Writes S.step (layer.luma4 shape.now done.now at n (so_far 16 (16 * n) 0 0 mb.now)) (so_far 16 (16 * (n + 1)) 0 0 mb.now) s.old s.new) }
+    ensures writes { (mbs : List Mb) → StandsAt (λ mb. mb) shape.now done.now mbs at → OnOk result (Writes S.step (layer.luma4 shape.now mbs at n (so_far 16 (16 * n) 0 0 mb.now)) (so_far 16 (16 * (n + 1)) 0 0 mb.now) s.old s.new) }
     ensures going { OnOk result (S.over s.new ≡ false) }
     ensures err { OnErr result (S.over s.new ≡ true) }
 {
@@ -222,19 +222,18 @@ fn write_luma4<S: BinSink>(
 fn write_blocks<S: BinSink>(
     s: &mut S,
     shape: &SliceShape,
-    done: &[Mb],
+    done: &Rows<Mb>,
     at: u32,
     quarter: u8,
     mb: &Mb,
 ) -> Result<(), Memory>
     requires going { S.over s.old ≡ false }
     requires picture { IsInPicture shape.now at }
-    requires done { at ≤ length done.now }
     requires quarter { quarter < 4 }
     requires sizes { HasSizes mb.now }
     requires residual { IsResidual mb.now }
     requires coded { terms.has_luma mb.now quarter ≡ true }
-    ensures writes { OnOk result (Writes S.step (each 4 (layer.luma4 shape.now done.now at) (4 * quarter) (so_far 16 (64 * quarter) 0 0 mb.now)) (so_far 16 (64 * (quarter + 1)) 0 0 mb.now) s.old s.new) }
+    ensures writes { (mbs : List Mb) → StandsAt (λ mb. mb) shape.now done.now mbs at → OnOk result (Writes S.step (each 4 (layer.luma4 shape.now mbs at) (4 * quarter) (so_far 16 (64 * quarter) 0 0 mb.now)) (so_far 16 (64 * (quarter + 1)) 0 0 mb.now) s.old s.new) }
     ensures going { OnOk result (S.over s.new ≡ false) }
     ensures err { OnErr result (S.over s.new ≡ true) }
 {
@@ -248,18 +247,17 @@ fn write_blocks<S: BinSink>(
 fn write_quarter<S: BinSink>(
     s: &mut S,
     shape: &SliceShape,
-    done: &[Mb],
+    done: &Rows<Mb>,
     at: u32,
     quarter: u8,
     mb: &Mb,
 ) -> Result<(), Memory>
     requires going { S.over s.old ≡ false }
     requires picture { IsInPicture shape.now at }
-    requires done { at ≤ length done.now }
     requires quarter { quarter < 4 }
     requires sizes { HasSizes mb.now }
     requires residual { IsResidual mb.now }
-    ensures writes { OnOk result (Writes S.step (layer.quarter shape.now done.now at quarter (so_far 16 (64 * quarter) 0 0 mb.now)) (so_far 16 (64 * (quarter + 1)) 0 0 mb.now) s.old s.new) }
+    ensures writes { (mbs : List Mb) → StandsAt (λ mb. mb) shape.now done.now mbs at → OnOk result (Writes S.step (layer.quarter shape.now mbs at quarter (so_far 16 (64 * quarter) 0 0 mb.now)) (so_far 16 (64 * (quarter + 1)) 0 0 mb.now) s.old s.new) }
     ensures going { OnOk result (S.over s.new ≡ false) }
     ensures err { OnErr result (S.over s.new ≡ true) }
 {
@@ -276,16 +274,15 @@ fn write_quarter<S: BinSink>(
 pub fn write_luma<S: BinSink>(
     s: &mut S,
     shape: &SliceShape,
-    done: &[Mb],
+    done: &Rows<Mb>,
     at: u32,
     mb: &Mb,
 ) -> Result<(), Memory>
     requires going { S.over s.old ≡ false }
     requires picture { IsInPicture shape.now at }
-    requires done { at ≤ length done.now }
     requires sizes { HasSizes mb.now }
     requires residual { IsResidual mb.now }
-    ensures writes { OnOk result (Writes S.step (each 4 (layer.quarter shape.now done.now at) 0 (so_far 16 0 0 0 mb.now)) (so_far 16 256 0 0 mb.now) s.old s.new) }
+    ensures writes { (mbs : List Mb) → StandsAt (λ mb. mb) shape.now done.now mbs at → OnOk result (Writes S.step (each 4 (layer.quarter shape.now mbs at) 0 (so_far 16 0 0 0 mb.now)) (so_far 16 256 0 0 mb.now) s.old s.new) }
     ensures going { OnOk result (S.over s.new ≡ false) }
     ensures err { OnErr result (S.over s.new ≡ true) }
 {

@@ -1,4 +1,4 @@
-use Rattle.std.proofs.Common.{◌+◌, ◌-◌, arith}
+use Rattle.std.proofs.Common.{◌+◌, ◌-◌, refl, ◌∙◌, arith}
 use Rattle.cabac_mb_residual.specs.MacroblockResidual.{chroma_ac}
 use Rattle.binarisation.proofs.Each.{reads_next, reads_no_next, reads_end}
 use Rattle.cabac_mb_residual.proofs.chroma.read_chroma_ac.Goals as goal
@@ -6,20 +6,22 @@ use Rattle.cabac_mb_residual.proofs.chroma.read_chroma_ac.Goals as goal
 pub loop-comp-init : goal.loop-comp-init
 loop-comp-init g c = record {
   going = c.requires.going;
-  reads = λ result t h. h;
+  kind = refl;
+  reads = λ mbs stands result t h. h;
 }
 
 pub loop-comp-preserved : goal.loop-comp-preserved
 loop-comp-preserved g c = record {
   going = c.in_ok-read_ac_of.ensures.going;
-  reads = λ result t h. c.loop-comp.invariant.reads result t
-      (reads_next g.S.BinSource.step (chroma_ac c.args.shape.now c.args.done.now c.args.at) (2 - c.loop-comp.comp) (2 - (c.loop-comp.comp + 1)) c.loop-comp.comp (c.loop-comp.comp + 1) c.loop-comp.mb _ result _ _ t (omega arith) (omega arith) c.in_ok-read_ac_of.ensures.reads h);
+  kind = c.in_ok-read_ac_of.ensures.kind ∙ c.loop-comp.invariant.kind;
+  reads = λ mbs stands result t h. c.loop-comp.invariant.reads mbs stands result t
+      (reads_next g.S.BinSource.step (chroma_ac c.args.shape.now mbs c.args.at) (2 - c.loop-comp.comp) (2 - (c.loop-comp.comp + 1)) c.loop-comp.comp (c.loop-comp.comp + 1) c.loop-comp.mb _ result _ _ t (omega arith) (omega arith) (c.in_ok-read_ac_of.ensures.reads mbs stands) h);
 }
 
 pub returns-in_err-read_ac_of-clause-reads : goal.returns-in_err-read_ac_of-clause-reads
-returns-in_err-read_ac_of-clause-reads g c =
-    c.loop-comp.invariant.reads _ _ (reads_no_next g.S.BinSource.step (chroma_ac c.args.shape.now c.args.done.now c.args.at) (2 - c.loop-comp.comp) (2 - (c.loop-comp.comp + 1)) c.loop-comp.comp (c.loop-comp.comp + 1) c.loop-comp.mb _ _ _ _ (omega arith) (omega arith) c.from_residual.ensures c.in_err-read_ac_of.ensures.reads)
+returns-in_err-read_ac_of-clause-reads g c mbs stands =
+    c.loop-comp.invariant.reads mbs stands _ _ (reads_no_next g.S.BinSource.step (chroma_ac c.args.shape.now mbs c.args.at) (2 - c.loop-comp.comp) (2 - (c.loop-comp.comp + 1)) c.loop-comp.comp (c.loop-comp.comp + 1) c.loop-comp.mb _ _ _ _ (omega arith) (omega arith) c.from_residual.ensures (c.in_err-read_ac_of.ensures.reads mbs stands))
 
 pub returns-clause-reads : goal.returns-clause-reads
-returns-clause-reads g c =
-    c.loop-comp.invariant.reads _ _ (reads_end g.S.BinSource.step (chroma_ac c.args.shape.now c.args.done.now c.args.at) (2 - c.loop-comp.comp) c.loop-comp.comp c.loop-comp.mb _ (omega arith))
+returns-clause-reads g c mbs stands =
+    c.loop-comp.invariant.reads mbs stands _ _ (reads_end g.S.BinSource.step (chroma_ac c.args.shape.now mbs c.args.at) (2 - c.loop-comp.comp) c.loop-comp.comp c.loop-comp.mb _ (omega arith))

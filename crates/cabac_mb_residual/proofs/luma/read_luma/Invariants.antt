@@ -1,4 +1,6 @@
-use Rattle.std.proofs.Common.{◌≡◌, ◌-◌, false}
+use Rattle.std.proofs.Common.{◌≡◌, ◌-◌, false, List}
+use Rattle.h264_types.specs.LastRows.{StandsAt}
+use Rattle.h264_types.specs.declared.macroblock.Mb.{Mb}
 use Rattle.binarisation.proofs.Strings.{Continues}
 use Rattle.binarisation.specs.Each.{each}
 use Rattle.cabac_mb_residual.specs.MacroblockResidual.{quarter}
@@ -7,5 +9,6 @@ use Rattle.cabac_mb_residual.proofs.luma.read_luma.Given as goal
 abbrev pub invariant-loop-quarter : goal.invariant-loop-quarter
 invariant-loop-quarter g l = record {
   going : g.S.BinSource.over l.s ≡ false;
-  reads : Continues g.S.BinSource.step (each 4 (quarter l.shape l.done l.at) 0 l.fn.mb) l.fn.s (each (4 - l.quarter) (quarter l.shape l.done l.at) l.quarter l.mb) l.s;
+  kind : l.mb.kind ≡ l.fn.mb.kind;
+  reads : (mbs : List Mb) → StandsAt (λ mb. mb) l.shape l.done mbs l.at → Continues g.S.BinSource.step (each 4 (quarter l.shape mbs l.at) 0 l.fn.mb) l.fn.s (each (4 - l.quarter) (quarter l.shape mbs l.at) l.quarter l.mb) l.s;
 }
