@@ -1,9 +1,9 @@
 -- The residuals that have a text are the valid ones.
 use Rattle.std.proofs.Common.{◌≡◌, ◌↔◌, ℕ, zero, suc, ◌+◌, ◌-◌, ◌*◌, ◌/◌, ◌%◌, ◌<◌, ◌≤◌, ℤ, pos, negsuc, Bool, true, false, List, [], ◌∷◌, ◌++◌, length, take, drop, get_or, filter, reverse, replicate, refl, sym, ap, subst, ◌∙◌, arith, length-append}
-use Rattle.std.specs.Prelude.{All, if◌then◌else◌, ◌||◌, slice_index, unsigned_abs}
+use Rattle.std.specs.Prelude.{All, if◌then◌else◌, ◌||◌, unsigned_abs}
 use Rattle.std.specs.List.{AllByRecursion, list_any}
-use Rattle.std.proofs.lemmas.List.{same_lists, get_or_default, get_or-replicate, length-replicate, append-nil, reverse-append, take-append-drop, length-take-le, length-drop, drop_all, get_or-drop}
-use Rattle.std.proofs.lemmas.List.Elements.{All-replicate, All-take, All-drop, All-append, All-head, All-tail, All-from_recursion, recursion_from_All}
+use Rattle.std.proofs.lemmas.List.{get_or_default, append-nil, reverse-append, take-append-drop, length-take-le, length-drop, drop_all, get_or-drop}
+use Rattle.std.proofs.lemmas.List.Elements.{All-take, All-drop, All-append, All-head, All-tail, All-from_recursion, recursion_from_All}
 use Rattle.bit_texts.specs.Bits.{bit}
 use Rattle.bit_texts.specs.Texts.{AreTurns}
 use Rattle.cavlc_residual.specs.Coefficients.{magnitude}

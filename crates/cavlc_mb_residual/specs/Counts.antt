@@ -2,6 +2,7 @@
 use Rattle.std.specs.Prelude.{ℕ, ◌+◌, ◌-◌, ◌*◌, ◌/◌, ◌%◌, ◌≤◌, nat_lt, if◌then◌else◌, Option, Some, None, List, [], ℤ, slice_get, slice_index_or}
 use Rattle.std.specs.Option.{option_map, option_map_or}
 use Rattle.h264_types.specs.Kind.{is_i_pcm}
+use Rattle.h264_types.specs.LastRows.{kept_at}
 use Rattle.h264_types.specs.Slice.{field_at}
 use Rattle.h264_types.specs.declared.macroblock.Mb.{Mb}
 use Rattle.h264_types.specs.declared.slice_shape.SliceShape.{SliceShape}
@@ -152,5 +153,4 @@ around_from left above = record {
 
 -- what macroblock number k of a list counts
 abbrev pub counts_at : List Mb → Option ℕ → Option Counts
-counts_at ms None = None
-counts_at ms (Some k) = option_map counts_of (slice_get ms k)
+counts_at = kept_at counts_of

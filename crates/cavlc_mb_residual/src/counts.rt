@@ -4,7 +4,7 @@ ghost use Rattle.cavlc_mb_residual.specs.LumaBlocks as lists;
 ghost use Rattle.cavlc_mb_residual.specs.Counts as count;
 
 use crate::transform_8x8::every_fourth;
-use h264_types::Mb;
+use h264_types::{Mb, OfMb};
 
 /// How many levels other than 0 the lists of a macroblock have that are sent of its blocks, as the macroblocks to its
 /// right and below it count them (9.2.1).
@@ -47,13 +47,16 @@ pub fn count_levels(levels: &[i32]) -> u8
     count
 }
 
-impl Counts {
-    /// What the blocks of a macroblock count: in I_PCM 16, in I_16x16 the levels of their AC blocks alone.
+/// What the blocks of a macroblock count: in I_PCM 16, in I_16x16 the levels of their AC blocks alone.
+impl OfMb for Counts {
+    ghost use Rattle.cavlc_mb_residual.specs.Counts as count;
+
+    ghost of = { count.counts_of };
+
+    ghost Is = { count.AreSmallCounts };
+
     #[tactic(auto, unfolding(crate::specs::LumaBlocks::sixteen))]
-    pub fn of(mb: &Mb) -> Counts
-        ensures value { result ≡ count.counts_of mb.now }
-        ensures small { count.AreSmallCounts result }
-    {
+    fn of(mb: &Mb) -> Counts {
         if mb.kind.is_i_pcm() {
             return Counts {
                 luma: [16; 16],

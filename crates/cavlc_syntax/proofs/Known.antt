@@ -6,17 +6,20 @@ use Rattle.bit_texts.specs.Bits.{more_data}
 use Rattle.bit_texts.specs.Cursor.{Cursor}
 use Rattle.bit_texts.proofs.Inverting.{some_is}
 use Rattle.bit_texts.proofs.Reading.{same_rest}
+use Rattle.h264_types.specs.LastRows.{LastRows, AreRows}
 use Rattle.h264_types.specs.Valid.{is_kind_in}
 use Rattle.h264_types.specs.declared.macroblock.Mb.{Mb}
 use Rattle.h264_types.specs.declared.macroblock.MbKind.TheVariants.{Skip}
 use Rattle.h264_types.specs.declared.slice_shape.SliceShape.{SliceShape}
+use Rattle.slice_data.specs.Reading.{AreGiven}
+use Rattle.cavlc_mb_residual.specs.Counts.{counts_of}
 use Rattle.cavlc_mb_residual.specs.declared.counts.Around.{Around}
 use Rattle.cavlc_mb_residual.specs.declared.counts.Counts.{Counts}
 use Rattle.cavlc_macroblock.specs.Reading.{IsSent, ReadsMacroblock}
 use Rattle.cavlc_syntax.specs.Reading.{run_at, skipped, IsRead}
-use Rattle.cavlc_syntax.specs.Row.{IsRow}
-use Rattle.cavlc_syntax.specs.SliceText.{HasText, prefix_bound, stop_text, coded_text, text_after, slice_text, NoList}
-use Rattle.cavlc_syntax.specs.Standing.{IsCodedNext, IsBehindRun, Remains, left_of, Knows, Stands, AreGiven}
+use Rattle.cavlc_syntax.specs.SliceText.{HasText, prefix_bound, stop_text, coded_text, text_after, slice_text, IsText, NoList}
+use Rattle.cavlc_syntax.specs.Standing.{IsCodedNext, IsBehindRun, Remains, left_of, Knows, Stands}
+use Rattle.cavlc_syntax.proofs.Rows.{IsAroundNext, Keeps}
 use Rattle.cavlc_syntax.proofs.Members.{sent_of, all_read, read_text}
 use Rattle.cavlc_syntax.proofs.Runs.{MaySkip, run_takes, run_reads, text_first, first_back, coded_more, text_more, no_other}
 use Rattle.cavlc_syntax.proofs.TextParts.{stop_no_more, around_next, text_no_run}
@@ -26,12 +29,12 @@ all_behind P [] ys h = h
 all_behind P (x ∷ xs) ys h = all_behind P xs ys (All-tail P x (xs ++ ys) h)
 
 -- to show a fact of the shape that a reader stands for, show it of the one that it keeps
-by_kept : (kept : SliceShape) (count : ℕ) (row : List Counts) (skips : ℕ) (Is : SliceShape → List Mb → Type 0) (P : SliceShape → Type 0) (shape : SliceShape) (pos : ℕ) (all : List Bool) (done : List Mb)
-    → (Knows kept pos all done skips (Is kept) → count ≡ length done → IsRow kept row done → P kept) → Stands kept count row skips (Is shape) shape pos all done → P shape
-by_kept kept count row skips Is P shape pos all done of_kept s =
+by_kept : (kept : SliceShape) (rows : LastRows Counts) (skips : ℕ) (Is : SliceShape → List Mb → Type 0) (P : SliceShape → Type 0) (shape : SliceShape) (pos : ℕ) (all : List Bool) (done : List Mb)
+    → (Knows kept pos all done skips (Is kept) → AreRows counts_of kept rows done → P kept) → Stands kept rows skips (Is shape) shape pos all done → P shape
+by_kept kept rows skips Is P shape pos all done of_kept s =
     let known : Knows kept pos all done skips (Is kept) = subst (λ (x : SliceShape). Knows x pos all done skips (Is x)) (sym s.of) s.knows in
-    let row_is : IsRow kept row done = subst (λ (x : SliceShape). IsRow x row done) (sym s.of) s.row_is in
-    subst (λ (x : SliceShape). P x) s.of (of_kept known s.counted row_is)
+    let rows_are : AreRows counts_of kept rows done = subst (λ (x : SliceShape). AreRows counts_of x rows done) (sym s.of) s.rows_are in
+    subst (λ (x : SliceShape). P x) s.of (of_kept known rows_are)
 
 -- where no macroblock was given yet, a run isn't over, or more_rbsp_data is true, one stands here
 abbrev pub GoesOn : List Mb → Option ℕ → Cursor → Type 0
@@ -234,7 +237,7 @@ know_next shape pos all known c d mb k room took =
 known_text : (shape : SliceShape) (pos : ℕ) (all : List Bool) (known : List Mb) (skips : ℕ) (Is : List Mb → Type 0) → Knows shape pos all known skips Is → 0 < length known → HasText shape known
 known_text shape pos all known skips Is k some = read_text shape known k.built some (omega (arith, k.inside (omega (arith, some)))) k.are_read
 
-are_given : (shape : SliceShape) (pos : ℕ) (all : List Bool) (known : List Mb) (skips : ℕ) (Is : List Mb → Type 0) → Knows shape pos all known skips Is → 0 < length known → AreGiven shape pos all known
+are_given : (shape : SliceShape) (pos : ℕ) (all : List Bool) (known : List Mb) (skips : ℕ) (Is : List Mb → Type 0) → Knows shape pos all known skips Is → 0 < length known → AreGiven HasText IsText shape pos all known
 are_given shape pos all known skips Is k some = record {
   begins = ([], subst (HasText shape) (sym (append-nil known)) (known_text shape pos all known skips Is k some));
   only = λ mbs has e. let old = k.only mbs has e in (old.0, old.1);
@@ -242,64 +245,62 @@ are_given shape pos all known skips Is k some = record {
 
 -- ---- the reader
 
-pub stands_skipped : (kept : SliceShape) (count : ℕ) (row row' : List Counts) (left : ℕ) (c : Cursor) (mb : Mb) (shape : SliceShape) (pos : ℕ) (all : List Bool) (done : List Mb) → mb ≡ skipped
-    → ((list : List Mb) → count ≡ length list → IsRow kept row list → IsRow kept row' (list ++ mb ∷ []))
-    → Stands kept count row (left + 1) (IsBehindRun shape done (left + 1) c) shape pos all done
-    → Stands kept (count + 1) row' left (IsBehindRun shape (done ++ mb ∷ []) left c) shape pos all (done ++ mb ∷ []) × AreGiven shape pos all (done ++ mb ∷ [])
-stands_skipped kept count row row' left c mb shape pos all done is push =
-    by_kept kept count row (left + 1) (λ sh. IsBehindRun sh done (left + 1) c) (λ sh. Stands kept (count + 1) row' left (IsBehindRun sh (done ++ mb ∷ []) left c) sh pos all (done ++ mb ∷ []) × AreGiven sh pos all (done ++ mb ∷ []))
-    shape pos all done (λ k counted row_is.
+pub stands_skipped : (kept : SliceShape) (rows rows' : LastRows Counts) (left : ℕ) (c : Cursor) (mb : Mb) (shape : SliceShape) (pos : ℕ) (all : List Bool) (done : List Mb) → mb ≡ skipped → Keeps rows rows' mb
+    → Stands kept rows (left + 1) (IsBehindRun shape done (left + 1) c) shape pos all done
+    → Stands kept rows' left (IsBehindRun shape (done ++ mb ∷ []) left c) shape pos all (done ++ mb ∷ []) × AreGiven HasText IsText shape pos all (done ++ mb ∷ [])
+stands_skipped kept rows rows' left c mb shape pos all done is push =
+    by_kept kept rows (left + 1) (λ sh. IsBehindRun sh done (left + 1) c) (λ sh. Stands kept rows' left (IsBehindRun sh (done ++ mb ∷ []) left c) sh pos all (done ++ mb ∷ []) × AreGiven HasText IsText sh pos all (done ++ mb ∷ []))
+    shape pos all done (λ k rows_are.
     let more : left + 1 ≡ suc left = omega arith in
     let next = subst (λ (m : Mb). Knows kept pos all (done ++ m ∷ []) left (IsBehindRun kept (done ++ m ∷ []) left c)) (sym is)
     (know_skipped kept pos all done left c (subst (λ (n : ℕ). Knows kept pos all done n (IsBehindRun kept done n c)) more k)) in
-    let count_is : count + 1 ≡ length (done ++ mb ∷ []) = omega (arith, counted, length-append done (mb ∷ [])) in
-    (record { of = refl; counted = count_is; row_is = push done counted row_is; knows = next }, are_given kept pos all (done ++ mb ∷ []) left (IsBehindRun kept (done ++ mb ∷ []) left c) next (omega (arith, count_is))))
+    let some : 0 < length (done ++ mb ∷ []) = omega (arith, length-append done (mb ∷ [])) in
+    (record { of = refl; rows_are = push kept done rows_are; knows = next }, are_given kept pos all (done ++ mb ∷ []) left (IsBehindRun kept (done ++ mb ∷ []) left c) next some))
 
-pub stands_coded : (kept : SliceShape) (count : ℕ) (row row' : List Counts) (c d : Cursor) (mb : Mb) (around : Around) (bound : ℕ) (shape : SliceShape) (pos : ℕ) (all : List Bool) (done : List Mb) → kept.first + count < kept.width * kept.height
-    → ((list : List Mb) → count ≡ length list → IsRow kept row list → around ≡ around_next kept list) → bound ≡ prefix_bound kept
-    → ((list : List Mb) → count ≡ length list → IsRow kept row list → IsRow kept row' (list ++ mb ∷ []))
-    → ReadsMacroblock kept around bound c (Some tt) mb d → Stands kept count row 0 (IsCodedNext shape done c) shape pos all done
-    → Stands kept (count + 1) row' 0 (Remains shape (done ++ mb ∷ []) None d) shape pos all (done ++ mb ∷ []) × AreGiven shape pos all (done ++ mb ∷ [])
-stands_coded kept count row row' c d mb around bound shape pos all done room around_is bound_is push reads =
-    by_kept kept count row 0 (λ sh. IsCodedNext sh done c) (λ sh. Stands kept (count + 1) row' 0 (Remains sh (done ++ mb ∷ []) None d) sh pos all (done ++ mb ∷ []) × AreGiven sh pos all (done ++ mb ∷ []))
-    shape pos all done (λ k counted row_is.
-    let took = subst (λ (n : ℕ). ReadsMacroblock kept (around_next kept done) n c (Some tt) mb d) bound_is (subst (λ (a : Around). ReadsMacroblock kept a bound c (Some tt) mb d) (around_is done counted row_is) reads) in
-    let next = know_next kept pos all done c d mb k (omega (arith, room, counted)) took in
-    let count_is : count + 1 ≡ length (done ++ mb ∷ []) = omega (arith, counted, length-append done (mb ∷ [])) in
-    (record { of = refl; counted = count_is; row_is = push done counted row_is; knows = next }, are_given kept pos all (done ++ mb ∷ []) 0 (Remains kept (done ++ mb ∷ []) None d) next (omega (arith, count_is))))
+pub stands_coded : (kept : SliceShape) (rows rows' : LastRows Counts) (c d : Cursor) (mb : Mb) (around : Around) (bound : ℕ) (shape : SliceShape) (pos : ℕ) (all : List Bool) (done : List Mb) → kept.first + rows.count < kept.width * kept.height
+    → IsAroundNext rows around → bound ≡ prefix_bound kept → Keeps rows rows' mb
+    → ReadsMacroblock kept around bound c (Some tt) mb d → Stands kept rows 0 (IsCodedNext shape done c) shape pos all done
+    → Stands kept rows' 0 (Remains shape (done ++ mb ∷ []) None d) shape pos all (done ++ mb ∷ []) × AreGiven HasText IsText shape pos all (done ++ mb ∷ [])
+stands_coded kept rows rows' c d mb around bound shape pos all done room around_is bound_is push reads =
+    by_kept kept rows 0 (λ sh. IsCodedNext sh done c) (λ sh. Stands kept rows' 0 (Remains sh (done ++ mb ∷ []) None d) sh pos all (done ++ mb ∷ []) × AreGiven HasText IsText sh pos all (done ++ mb ∷ []))
+    shape pos all done (λ k rows_are.
+    let took = subst (λ (n : ℕ). ReadsMacroblock kept (around_next kept done) n c (Some tt) mb d) bound_is (subst (λ (a : Around). ReadsMacroblock kept a bound c (Some tt) mb d) (around_is kept done (omega (arith, k.built.is_shape.some.0)) rows_are) reads) in
+    let next = know_next kept pos all done c d mb k (omega (arith, room, rows_are.counted)) took in
+    let some : 0 < length (done ++ mb ∷ []) = omega (arith, length-append done (mb ∷ [])) in
+    (record { of = refl; rows_are = push kept done rows_are; knows = next }, are_given kept pos all (done ++ mb ∷ []) 0 (Remains kept (done ++ mb ∷ []) None d) next some))
 
-pub refuse_coded : (kept : SliceShape) (count : ℕ) (row : List Counts) (c d : Cursor) (mb : Mb) (around : Around) (bound : ℕ) (shape : SliceShape) (pos : ℕ) (all : List Bool) (done : List Mb)
-    → ((list : List Mb) → count ≡ length list → IsRow kept row list → around ≡ around_next kept list) → bound ≡ prefix_bound kept
-    → ReadsMacroblock kept around bound c None mb d → Stands kept count row 0 (IsCodedNext shape done c) shape pos all done → NoList shape pos all
-refuse_coded kept count row c d mb around bound shape pos all done around_is bound_is none =
-    by_kept kept count row 0 (λ sh. IsCodedNext sh done c) (λ sh. NoList sh pos all) shape pos all done (λ k counted row_is.
+pub refuse_coded : (kept : SliceShape) (rows : LastRows Counts) (c d : Cursor) (mb : Mb) (around : Around) (bound : ℕ) (shape : SliceShape) (pos : ℕ) (all : List Bool) (done : List Mb)
+    → IsAroundNext rows around → bound ≡ prefix_bound kept
+    → ReadsMacroblock kept around bound c None mb d → Stands kept rows 0 (IsCodedNext shape done c) shape pos all done → NoList shape pos all
+refuse_coded kept rows c d mb around bound shape pos all done around_is bound_is none =
+    by_kept kept rows 0 (λ sh. IsCodedNext sh done c) (λ sh. NoList sh pos all) shape pos all done (λ k rows_are.
     refuse_text kept pos all done c d mb k
-    (subst (λ (n : ℕ). ReadsMacroblock kept (around_next kept done) n c None mb d) bound_is (subst (λ (a : Around). ReadsMacroblock kept a bound c None mb d) (around_is done counted row_is) none)))
+    (subst (λ (n : ℕ). ReadsMacroblock kept (around_next kept done) n c None mb d) bound_is (subst (λ (a : Around). ReadsMacroblock kept a bound c None mb d) (around_is kept done (omega (arith, k.built.is_shape.some.0)) rows_are) none)))
 
 -- what was read of the run, in a state that goes on
-pub stands_run : (kept : SliceShape) (count : ℕ) (row : List Counts) (run : Option ℕ) (room : ℕ) (c : Cursor) (left : ℕ) (d : Cursor) (shape : SliceShape) (pos : ℕ) (all : List Bool) (done : List Mb)
-    → (0 < count → left_of run ≡ 0 → more_data c.left ≡ true) → room ≡ kept.width * kept.height - (kept.first + count) → 0 < room → run_at kept.kind room run c ≡ Some (left, d)
-    → Stands kept count row (left_of run) (Remains shape done run c) shape pos all done → Stands kept count row left (IsAhead shape done left d) shape pos all done
-stands_run kept count row run room c left d shape pos all done more is_room some e =
-    by_kept kept count row (left_of run) (λ sh. Remains sh done run c) (λ sh. Stands kept count row left (IsAhead sh done left d) sh pos all done) shape pos all done (λ k counted row_is.
-    record { of = refl; counted = counted; row_is = row_is; knows = know_run kept pos all done run room c left d k (λ any. more (omega (arith, any, counted))) (is_room ∙ ap (λ n. kept.width * kept.height - (kept.first + n)) counted) some e })
+pub stands_run : (kept : SliceShape) (rows : LastRows Counts) (run : Option ℕ) (room : ℕ) (c : Cursor) (left : ℕ) (d : Cursor) (shape : SliceShape) (pos : ℕ) (all : List Bool) (done : List Mb)
+    → (0 < rows.count → left_of run ≡ 0 → more_data c.left ≡ true) → room ≡ kept.width * kept.height - (kept.first + rows.count) → 0 < room → run_at kept.kind room run c ≡ Some (left, d)
+    → Stands kept rows (left_of run) (Remains shape done run c) shape pos all done → Stands kept rows left (IsAhead shape done left d) shape pos all done
+stands_run kept rows run room c left d shape pos all done more is_room some e =
+    by_kept kept rows (left_of run) (λ sh. Remains sh done run c) (λ sh. Stands kept rows left (IsAhead sh done left d) sh pos all done) shape pos all done (λ k rows_are.
+    record { of = refl; rows_are = rows_are; knows = know_run kept pos all done run room c left d k (λ any. more (omega (arith, any, rows_are.counted))) (is_room ∙ ap (λ n. kept.width * kept.height - (kept.first + n)) rows_are.counted) some e })
 
-pub stands_some : (kept : SliceShape) (count : ℕ) (row : List Counts) (left n : ℕ) (d : Cursor) (shape : SliceShape) (pos : ℕ) (all : List Bool) (done : List Mb) → 0 < left → n ≡ left
-    → Stands kept count row left (IsAhead shape done left d) shape pos all done → Stands kept count row n (IsBehindRun shape done n d) shape pos all done
-stands_some kept count row zero n d shape pos all done some e s = absurd (omega (arith, some))
-stands_some kept count row (suc left) n d shape pos all done some e s = subst (λ (m : ℕ). Stands kept count row m (IsBehindRun shape done m d) shape pos all done) (sym e) s
+pub stands_some : (kept : SliceShape) (rows : LastRows Counts) (left n : ℕ) (d : Cursor) (shape : SliceShape) (pos : ℕ) (all : List Bool) (done : List Mb) → 0 < left → n ≡ left
+    → Stands kept rows left (IsAhead shape done left d) shape pos all done → Stands kept rows n (IsBehindRun shape done n d) shape pos all done
+stands_some kept rows zero n d shape pos all done some e s = absurd (omega (arith, some))
+stands_some kept rows (suc left) n d shape pos all done some e s = subst (λ (m : ℕ). Stands kept rows m (IsBehindRun shape done m d) shape pos all done) (sym e) s
 
-pub stands_none : (kept : SliceShape) (count : ℕ) (row : List Counts) (left : ℕ) (d : Cursor) (shape : SliceShape) (pos : ℕ) (all : List Bool) (done : List Mb) → left ≡ 0
-    → Stands kept count row left (IsAhead shape done left d) shape pos all done → Stands kept count row 0 (IsCodedNext shape done d) shape pos all done
-stands_none kept count row left d shape pos all done e s = subst (λ (m : ℕ). Stands kept count row m (IsAhead shape done m d) shape pos all done) e s
+pub stands_none : (kept : SliceShape) (rows : LastRows Counts) (left : ℕ) (d : Cursor) (shape : SliceShape) (pos : ℕ) (all : List Bool) (done : List Mb) → left ≡ 0
+    → Stands kept rows left (IsAhead shape done left d) shape pos all done → Stands kept rows 0 (IsCodedNext shape done d) shape pos all done
+stands_none kept rows left d shape pos all done e s = subst (λ (m : ℕ). Stands kept rows m (IsAhead shape done m d) shape pos all done) e s
 
-pub refuse_ahead : (kept : SliceShape) (count : ℕ) (row : List Counts) (run : Option ℕ) (room : ℕ) (c : Cursor) (shape : SliceShape) (pos : ℕ) (all : List Bool) (done : List Mb)
-    → (0 < count → left_of run ≡ 0 → more_data c.left ≡ true) → room ≡ kept.width * kept.height - (kept.first + count) → (room ≡ 0) ⊎ (run_at kept.kind room run c ≡ None)
-    → Stands kept count row (left_of run) (Remains shape done run c) shape pos all done → NoList shape pos all
-refuse_ahead kept count row run room c shape pos all done more is_room none =
-    by_kept kept count row (left_of run) (λ sh. Remains sh done run c) (λ sh. NoList sh pos all) shape pos all done (λ k counted row_is.
-    let goes_on : GoesOn done run c = λ any. more (omega (arith, any, counted)) in
-    let is : IsRoom kept done room = is_room ∙ ap (λ n. kept.width * kept.height - (kept.first + n)) counted in
+pub refuse_ahead : (kept : SliceShape) (rows : LastRows Counts) (run : Option ℕ) (room : ℕ) (c : Cursor) (shape : SliceShape) (pos : ℕ) (all : List Bool) (done : List Mb)
+    → (0 < rows.count → left_of run ≡ 0 → more_data c.left ≡ true) → room ≡ kept.width * kept.height - (kept.first + rows.count) → (room ≡ 0) ⊎ (run_at kept.kind room run c ≡ None)
+    → Stands kept rows (left_of run) (Remains shape done run c) shape pos all done → NoList shape pos all
+refuse_ahead kept rows run room c shape pos all done more is_room none =
+    by_kept kept rows (left_of run) (λ sh. Remains sh done run c) (λ sh. NoList sh pos all) shape pos all done (λ k rows_are.
+    let goes_on : GoesOn done run c = λ any. more (omega (arith, any, rows_are.counted)) in
+    let is : IsRoom kept done room = is_room ∙ ap (λ n. kept.width * kept.height - (kept.first + n)) rows_are.counted in
     elim none [
       | inl full ↦ refuse_more kept pos all done run room c k goes_on is full
       | inr cut ↦ refuse_run kept pos all done run room c k goes_on is cut
@@ -332,12 +333,12 @@ refuse_end shape pos all known run c k none ended other mbs has e = let old = k.
         let there : more_data c.left ≡ true = remains_more shape known run c mb tail are none r in
         absurd cc
 
-pub stands_end : (kept : SliceShape) (count : ℕ) (row : List Counts) (run : Option ℕ) (c : Cursor) (shape : SliceShape) (pos : ℕ) (all : List Bool) (done : List Mb) → 0 < count → left_of run ≡ 0 → c.left ≡ stop_text c.taken
-    → Stands kept count row (left_of run) (Remains shape done run c) shape pos all done → HasText shape done × (all ≡ slice_text shape pos done)
-stands_end kept count row run c shape pos all done some none left =
-    by_kept kept count row (left_of run) (λ sh. Remains sh done run c) (λ sh. HasText sh done × (all ≡ slice_text sh pos done)) shape pos all done (λ k counted row_is. know_end kept pos all done run c k (omega (arith, counted, some)) none left)
+pub stands_end : (kept : SliceShape) (rows : LastRows Counts) (run : Option ℕ) (c : Cursor) (shape : SliceShape) (pos : ℕ) (all : List Bool) (done : List Mb) → 0 < rows.count → left_of run ≡ 0 → c.left ≡ stop_text c.taken
+    → Stands kept rows (left_of run) (Remains shape done run c) shape pos all done → HasText shape done × (all ≡ slice_text shape pos done)
+stands_end kept rows run c shape pos all done some none left =
+    by_kept kept rows (left_of run) (λ sh. Remains sh done run c) (λ sh. HasText sh done × (all ≡ slice_text sh pos done)) shape pos all done (λ k rows_are. know_end kept pos all done run c k (omega (arith, rows_are.counted, some)) none left)
 
-pub refuse_other : (kept : SliceShape) (count : ℕ) (row : List Counts) (run : Option ℕ) (c : Cursor) (shape : SliceShape) (pos : ℕ) (all : List Bool) (done : List Mb) → left_of run ≡ 0 → more_data c.left ≡ false → (c.left ≡ stop_text c.taken → ⊥)
-    → Stands kept count row (left_of run) (Remains shape done run c) shape pos all done → NoList shape pos all
-refuse_other kept count row run c shape pos all done none ended other =
-    by_kept kept count row (left_of run) (λ sh. Remains sh done run c) (λ sh. NoList sh pos all) shape pos all done (λ k counted row_is. refuse_end kept pos all done run c k none ended other)
+pub refuse_other : (kept : SliceShape) (rows : LastRows Counts) (run : Option ℕ) (c : Cursor) (shape : SliceShape) (pos : ℕ) (all : List Bool) (done : List Mb) → left_of run ≡ 0 → more_data c.left ≡ false → (c.left ≡ stop_text c.taken → ⊥)
+    → Stands kept rows (left_of run) (Remains shape done run c) shape pos all done → NoList shape pos all
+refuse_other kept rows run c shape pos all done none ended other =
+    by_kept kept rows (left_of run) (λ sh. Remains sh done run c) (λ sh. NoList sh pos all) shape pos all done (λ k rows_are. refuse_end kept pos all done run c k none ended other)

@@ -7,35 +7,36 @@ use Rattle.h264_types.specs.Kind.{is_skip}
 use Rattle.h264_types.specs.Valid.{IsMacroblock}
 use Rattle.h264_types.specs.declared.macroblock.Mb.{Mb}
 use Rattle.h264_types.specs.declared.slice_shape.SliceShape.{SliceShape}
+use Rattle.h264_types.specs.LastRows.{LastRows, AreRows}
+use Rattle.cavlc_mb_residual.specs.Counts.{counts_of}
 use Rattle.cavlc_mb_residual.specs.MacroblockResidual.{is_beyond_mb}
 use Rattle.cavlc_mb_residual.specs.declared.counts.Around.{Around}
 use Rattle.cavlc_mb_residual.specs.declared.counts.Counts.{Counts}
 use Rattle.cavlc_macroblock.specs.Reading.{IsSent}
-use Rattle.cavlc_syntax.specs.Row.{IsRow}
-use Rattle.cavlc_syntax.specs.Standing.{BeginsText}
 use Rattle.cavlc_syntax.specs.SliceText.{IsNotBeyond, prefix_bound, stop_text, run_text, last_run_text, coded_text, put_text, text_after, slice_text}
-use Rattle.cavlc_syntax.specs.Written.{Writes, BeginsSlice}
+use Rattle.cavlc_syntax.specs.Written.{Writes}
+use Rattle.slice_data.specs.Writing.{BeginsSlice}
 use Rattle.cavlc_macroblock.proofs.ValidLaws.{skipped_levels}
+use Rattle.cavlc_syntax.proofs.Rows.{IsAroundNext}
 use Rattle.cavlc_syntax.proofs.Members.{skipped_of, sent_20}
 use Rattle.cavlc_syntax.proofs.TextParts.{around_next, text_end, text_skip, text_coded}
 
 -- ---- what is put
 
-pub put_skipped : (kept : SliceShape) (count : ℕ) (row row' : List Counts) (run : ℕ) (bits : List Bool) (shape : SliceShape) (before : List Bool) (done : List Mb) (mb : Mb) → Writes kept count row run bits shape before done
-    → is_skip mb.kind ≡ true → IsRow shape row' (done ++ mb ∷ []) → Writes kept (count + 1) row' (run + 1) bits shape before (done ++ mb ∷ [])
-put_skipped kept count row row' run bits shape before done mb w skips row_is = record {
+pub put_skipped : (kept : SliceShape) (rows rows' : LastRows Counts) (run : ℕ) (bits : List Bool) (shape : SliceShape) (before : List Bool) (done : List Mb) (mb : Mb) → Writes kept rows run bits shape before done
+    → is_skip mb.kind ≡ true → AreRows counts_of shape rows' (done ++ mb ∷ []) → Writes kept rows' (run + 1) bits shape before (done ++ mb ∷ [])
+put_skipped kept rows rows' run bits shape before done mb w skips rows_are = record {
   of = w.of;
   built = w.built;
-  counted = omega (arith, w.counted, length-append done (mb ∷ []));
-  row_is = row_is;
-  few = omega (arith, w.few);
+  rows_are = rows_are;
+  few = omega (arith, w.few, w.rows_are.counted, rows_are.counted, length-append done (mb ∷ []));
   text = λ tail.
       ap (λ l. before ++ slice_text shape (length before) l) (append_assoc done (mb ∷ []) tail) ∙ w.text (mb ∷ tail) ∙ ap (λ l. bits ++ l) (text_skip shape (length bits) done run mb tail skips);
 }
 
-pub put_one : (kept : SliceShape) (count : ℕ) (row row' : List Counts) (run : ℕ) (bits new : List Bool) (shape : SliceShape) (before : List Bool) (done : List Mb) (mb : Mb) → Writes kept count row run bits shape before done
-    → is_skip mb.kind ≡ false → Appended bits new (put_text shape (around_next shape done) (length bits) run mb) → IsRow shape row' (done ++ mb ∷ []) → Writes kept (count + 1) row' 0 new shape before (done ++ mb ∷ [])
-put_one kept count row row' run bits new shape before done mb w sent put row_is =
+pub put_one : (kept : SliceShape) (rows rows' : LastRows Counts) (run : ℕ) (bits new : List Bool) (shape : SliceShape) (before : List Bool) (done : List Mb) (mb : Mb) → Writes kept rows run bits shape before done
+    → is_skip mb.kind ≡ false → Appended bits new (put_text shape (around_next shape done) (length bits) run mb) → AreRows counts_of shape rows' (done ++ mb ∷ []) → Writes kept rows' 0 new shape before (done ++ mb ∷ [])
+put_one kept rows rows' run bits new shape before done mb w sent put rows_are =
     let first = run_text shape.kind run in
     let here = coded_text shape (length bits + length first) done mb in
     let far : length new ≡ length bits + length first + length here = omega (arith, ap length put.is, length-append bits (first ++ here), length-append first here) in
@@ -43,8 +44,7 @@ put_one kept count row row' run bits new shape before done mb w sent put row_is 
     record {
       of = w.of;
       built = w.built;
-      counted = omega (arith, w.counted, length-append done (mb ∷ []));
-      row_is = row_is;
+      rows_are = rows_are;
       few = omega arith;
       text = λ tail.
           ap (λ l. before ++ slice_text shape (length before) l) (append_assoc done (mb ∷ []) tail) ∙ w.text (mb ∷ tail)
@@ -53,9 +53,9 @@ put_one kept count row row' run bits new shape before done mb w sent put row_is 
           ∙ ap (λ l. l ++ rest (length bits + length first + length here) tail) (sym put.is) ∙ ap (λ n. new ++ rest n tail) (sym far);
     }
 
-pub put_end : (kept : SliceShape) (count : ℕ) (row : List Counts) (run : ℕ) (bits mid new : List Bool) (shape : SliceShape) (before : List Bool) (done : List Mb) → Writes kept count row run bits shape before done
+pub put_end : (kept : SliceShape) (rows : LastRows Counts) (run : ℕ) (bits mid new : List Bool) (shape : SliceShape) (before : List Bool) (done : List Mb) → Writes kept rows run bits shape before done
     → Appended bits mid (last_run_text kept.kind run) → Appended mid new (stop_text (length mid)) → new ≡ before ++ slice_text shape (length before) done
-put_end kept count row run bits mid new shape before done w last stop =
+put_end kept rows run bits mid new shape before done w last stop =
     let end = last_run_text shape.kind run in
     let put : Appended bits mid end = subst (λ (s : SliceShape). Appended bits mid (last_run_text s.kind run)) w.of last in
     let far : length mid ≡ length bits + length end = ap length put.is ∙ length-append bits end in
@@ -69,9 +69,9 @@ all_last P [] x ys h = All-head P x ys h
 all_last P (y ∷ xs) x ys h = all_last P xs x ys (All-tail P y ((xs ++ x ∷ []) ++ ys) h)
 
 -- it has a text, whatever the bound, in the shape that the writer keeps
-pub may_sent : (kept : SliceShape) (count : ℕ) (row : List Counts) (run : ℕ) (bits : List Bool) (shape : SliceShape) (before : List Bool) (done : List Mb) (mb : Mb) → Writes kept count row run bits shape before done
+pub may_sent : (kept : SliceShape) (rows : LastRows Counts) (run : ℕ) (bits : List Bool) (shape : SliceShape) (before : List Bool) (done : List Mb) (mb : Mb) → Writes kept rows run bits shape before done
     → BeginsSlice shape (done ++ mb ∷ []) → is_skip mb.kind ≡ false → IsSent kept 20 mb
-may_sent kept count row run bits shape before done mb w begins sent =
+may_sent kept rows run bits shape before done mb w begins sent =
     subst (λ (s : SliceShape). IsSent s 20 mb) (sym w.of)
     (sent_20 shape mb w.built.built.mbaff sent (all_last (IsMacroblock shape) done mb begins.0 begins.1.macroblocks))
 
@@ -83,23 +83,11 @@ may_skip shape other done mb mbaff begins skips =
 
 -- ---- the shape that a writer keeps
 
-kept_row : (kept : SliceShape) (count : ℕ) (row : List Counts) (run : ℕ) (bits : List Bool) (shape : SliceShape) (before : List Bool) (done : List Mb) → Writes kept count row run bits shape before done → IsRow kept row done
-kept_row kept count row run bits shape before done w = subst (λ (s : SliceShape). IsRow s row done) (sym w.of) w.row_is
-
 pub put_beyond : (kept shape : SliceShape) (bound : ℕ) (mb : Mb) (b : Bool) → kept ≡ shape → bound ≡ prefix_bound kept → b ≡ is_beyond_mb bound mb → is_beyond_mb (prefix_bound shape) mb ≡ b
 put_beyond kept shape bound mb b of e f = ap (λ (s : SliceShape). is_beyond_mb (prefix_bound s) mb) (sym of) ∙ ap (λ n. is_beyond_mb n mb) (sym e) ∙ sym f
 
 -- the text that is put, in the words of the shape that a writer stands for
-pub put_around : (kept : SliceShape) (count : ℕ) (row : List Counts) (run : ℕ) (bits : List Bool) (shape : SliceShape) (before : List Bool) (done : List Mb) (mb : Mb) (around : Around) → Writes kept count row run bits shape before done
-    → ((list : List Mb) → count ≡ length list → IsRow kept row list → around ≡ around_next kept list) → put_text kept around (length bits) run mb ≡ put_text shape (around_next shape done) (length bits) run mb
-put_around kept count row run bits shape before done mb around w is =
-    ap (λ (a : Around). put_text kept a (length bits) run mb) (is done w.counted (kept_row kept count row run bits shape before done w)) ∙ ap (λ (s : SliceShape). put_text s (around_next s done) (length bits) run mb) w.of
-
-pub put_row : (kept : SliceShape) (count : ℕ) (row row' : List Counts) (run : ℕ) (bits : List Bool) (shape : SliceShape) (before : List Bool) (done : List Mb) (mb : Mb) → Writes kept count row run bits shape before done
-    → ((list : List Mb) → count ≡ length list → IsRow kept row list → IsRow kept row' (list ++ mb ∷ [])) → IsRow shape row' (done ++ mb ∷ [])
-put_row kept count row row' run bits shape before done mb w is =
-    subst (λ (s : SliceShape). IsRow s row' (done ++ mb ∷ [])) w.of (is done w.counted (kept_row kept count row run bits shape before done w))
-
--- what begins a list that has a text needs no longer level_prefix
-pub begins_within : (shape : SliceShape) (done : List Mb) (mb : Mb) → BeginsText shape (done ++ mb ∷ []) → IsNotBeyond shape mb
-begins_within shape done mb begins = all_last (IsNotBeyond shape) done mb begins.0 begins.1.within
+pub put_around : (kept : SliceShape) (rows : LastRows Counts) (run : ℕ) (bits : List Bool) (shape : SliceShape) (before : List Bool) (done : List Mb) (mb : Mb) (around : Around) → Writes kept rows run bits shape before done
+    → IsAroundNext rows around → put_text kept around (length bits) run mb ≡ put_text shape (around_next shape done) (length bits) run mb
+put_around kept rows run bits shape before done mb around w is =
+    ap (λ (a : Around). put_text kept a (length bits) run mb) (is shape done (omega (arith, w.built.is_shape.some.0)) w.rows_are) ∙ ap (λ (s : SliceShape). put_text s (around_next shape done) (length bits) run mb) w.of

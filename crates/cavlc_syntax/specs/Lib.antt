@@ -1,5 +1,5 @@
 pub mod SliceText
 pub mod Reading
-pub mod Row
+pub mod Kept
 pub mod Written
 pub mod Standing

@@ -12,6 +12,7 @@ use Rattle.h264_types.specs.declared.slice_shape.SliceKind.{SliceKind}
 use Rattle.h264_types.specs.declared.slice_shape.SliceKind.TheVariants as slices
 use Rattle.h264_types.specs.SliceShape.{IsSliceShape}
 use Rattle.h264_types.specs.Valid.{IsSlice}
+use Rattle.slice_data.specs.Reading.{NoList as NoListOf}
 
 -- the slices that are read and written: those outside MBAFF
 pub record IsBuilt (shape : SliceShape) : Type 0 where
@@ -25,9 +26,12 @@ pub record IsBuiltShape (shape : SliceShape) : Type 0 where
 abbrev pub prefix_bound : SliceShape → ℕ
 prefix_bound shape = if shape.profile == 77 then 15 else 20
 
--- no level of the macroblock needs a longer level_prefix
+-- whether a level of the macroblock needs a longer level_prefix
+abbrev pub is_beyond_in : SliceShape → Mb → Bool
+is_beyond_in shape mb = is_beyond_mb (prefix_bound shape) mb
+
 abbrev pub IsNotBeyond : SliceShape → Mb → Type 0
-IsNotBeyond shape mb = is_beyond_mb (prefix_bound shape) mb ≡ false
+IsNotBeyond shape mb = is_beyond_in shape mb ≡ false
 
 -- the lists of macroblocks that have a text
 pub record HasText (shape : SliceShape) (mbs : List Mb) : Type 0 where
@@ -78,6 +82,10 @@ text_after shape pos before run (mb ∷ mbs) =
 abbrev pub slice_text : SliceShape → ℕ → List Mb → List Bool
 slice_text shape pos mbs = text_after shape pos [] 0 mbs
 
+-- the bits are the text of the list, behind `pos` bits
+abbrev pub IsText : SliceShape → ℕ → List Mb → List Bool → Type 0
+IsText shape pos mbs bits = bits ≡ slice_text shape pos mbs
+
 -- no list has these bits as its text
 abbrev pub NoList : SliceShape → ℕ → List Bool → Type 0
-NoList shape pos bits = (mbs : List Mb) → HasText shape mbs → bits ≡ slice_text shape pos mbs → ⊥
+NoList = NoListOf HasText IsText

@@ -1,28 +1,23 @@
 -- What a reader of slice data stands for: all bits behind the slice's header, and the macroblocks given so far.
-use Rattle.std.specs.Prelude.{◌≡◌, ℕ, zero, suc, ◌+◌, ◌*◌, ◌<◌, ◌≤◌, Bool, true, false, List, [], ◌∷◌, ◌++◌, length, Option, Some, None, Result, Ok, Err, All}
+use Rattle.std.specs.Prelude.{◌≡◌, ℕ, zero, suc, ◌+◌, ◌*◌, ◌<◌, ◌≤◌, Bool, true, false, List, [], ◌∷◌, ◌++◌, length, Option, Some, None, All}
 use Rattle.std.specs.Option.{option_map_or}
 use Rattle.bit_texts.specs.Cursor.{Cursor, cursor}
+use Rattle.cavlc_mb_residual.specs.Counts.{counts_of}
 use Rattle.cavlc_mb_residual.specs.declared.counts.Counts.{Counts}
 use Rattle.h264_types.specs.Kind.{is_skip}
+use Rattle.h264_types.specs.LastRows.{LastRows, AreRows}
 use Rattle.h264_types.specs.Valid.{is_kind_in}
 use Rattle.h264_types.specs.declared.macroblock.Mb.{Mb}
 use Rattle.h264_types.specs.declared.macroblock.MbKind.TheVariants.{Skip}
 use Rattle.h264_types.specs.declared.slice_shape.SliceShape.{SliceShape}
-use Rattle.cavlc_syntax.specs.declared.fault.SliceFault.{SliceFault}
-use Rattle.cavlc_syntax.specs.declared.fault.SliceFault.TheVariants as faults
+use Rattle.slice_data.specs.Reading.{AreGiven}
 use Rattle.cavlc_syntax.specs.declared.reader.CavlcReader.{CavlcReader}
-use Rattle.cavlc_syntax.specs.declared.reader.Step.{Step}
-use Rattle.cavlc_syntax.specs.declared.reader.Step.TheVariants as steps
 use Rattle.cavlc_syntax.specs.Reading.{skipped, IsRead}
-use Rattle.cavlc_syntax.specs.Row.{IsRow}
-use Rattle.cavlc_syntax.specs.SliceText.{IsBuiltShape, HasText, stop_text, coded_text, text_after, slice_text, NoList}
+use Rattle.cavlc_syntax.specs.SliceText.{IsBuiltShape, HasText, stop_text, coded_text, text_after, slice_text, IsText}
 
 -- the place in a source of bits, by the bits taken and those left
 abbrev pub place_in : {B : Type 0} → (B → List Bool) → (B → List Bool) → B → Cursor
 place_in taken left bits = cursor (length (taken bits)) (left bits)
-
-abbrev pub StartsWith : List Mb → List Mb → Type 0
-StartsWith mbs front = (tail : List Mb) × (mbs ≡ front ++ tail)
 
 -- ---- what is known between two calls
 
@@ -63,46 +58,19 @@ pub record Knows (shape : SliceShape) (pos : ℕ) (all : List Bool) (known : Lis
 
 -- ---- the reader
 
--- `done` was given of a slice of this shape, whose data are the bits `all`, `pos` bits in: what a reader keeps is how many
--- they are and what the last ones count, and of its bits that those of a tail are left of which `Is` holds.
-pub record Stands (kept : SliceShape) (count : ℕ) (row : List Counts) (skips : ℕ) (Is : List Mb → Type 0) (shape : SliceShape) (pos : ℕ) (all : List Bool) (done : List Mb) : Type 0 where
+-- `done` was given of a slice of this shape, whose data are the bits `all`, `pos` bits in: what a reader keeps is what the
+-- last ones count, and of its bits that those of a tail are left of which `Is` holds.
+pub record Stands (kept : SliceShape) (rows : LastRows Counts) (skips : ℕ) (Is : List Mb → Type 0) (shape : SliceShape) (pos : ℕ) (all : List Bool) (done : List Mb) : Type 0 where
   pub of : kept ≡ shape
-  pub counted : count ≡ length done
-  pub row_is : IsRow shape row done
+  pub rows_are : AreRows counts_of shape rows done
   pub knows : Knows shape pos all done skips Is
 
 abbrev pub StandsBefore : {B : Type 0} → CavlcReader B → ℕ → (List Mb → Type 0) → SliceShape → ℕ → List Bool → List Mb → Type 0
-StandsBefore reader skips Is shape pos all done = Stands reader.shape reader.count reader.row.counts.items skips Is shape pos all done
+StandsBefore reader skips Is shape pos all done = Stands reader.shape reader.rows skips Is shape pos all done
 
 abbrev pub StandsFor : {B : Type 0} → (B → Cursor) → CavlcReader B → SliceShape → ℕ → List Bool → List Mb → Type 0
 StandsFor at reader shape pos all done = StandsBefore reader (left_of reader.run) (Remains shape done reader.run (at reader.bits)) shape pos all done
 
--- these begin a list that has a text
-abbrev pub BeginsText : SliceShape → List Mb → Type 0
-BeginsText shape front = (tail : List Mb) × HasText shape (front ++ tail)
-
--- The macroblocks given begin a list that has a text, whatever the bits, and begin every such list with these bits.
-pub record AreGiven (shape : SliceShape) (pos : ℕ) (all : List Bool) (done : List Mb) : Type 0 where
-  pub begins : BeginsText shape done
-  pub only : (mbs : List Mb) → HasText shape mbs → all ≡ slice_text shape pos mbs → StartsWith mbs done
-
--- what a refusal says of the bits of the slice
-abbrev pub Refuses : SliceShape → ℕ → List Bool → SliceFault → Type 0
-Refuses shape pos all faults.NoReading = NoList shape pos all
-Refuses shape pos all faults.Memory = ⊥
-
 -- the reader stands for these, which are given
 abbrev pub Gave : {B : Type 0} → (B → Cursor) → CavlcReader B → SliceShape → ℕ → List Bool → List Mb → Type 0
-Gave at reader shape pos all done = StandsFor at reader shape pos all done × AreGiven shape pos all done
-
--- what `next` says, where the reader stood for `done`
-abbrev pub NextGives : {B : Type 0} → (B → Cursor) → CavlcReader B → SliceShape → ℕ → List Bool → List Mb → Result Step SliceFault → Type 0
-NextGives at reader shape pos all done (Ok (steps.Mb mb)) = Gave at reader shape pos all (done ++ mb ∷ [])
-NextGives at reader shape pos all done (Ok steps.End) = HasText shape done × (all ≡ slice_text shape pos done) × ((at reader.bits).left ≡ [])
-NextGives at reader shape pos all done (Err fault) = Refuses shape pos all fault
-
--- what `next` answers where `next_into` filled a macroblock, or didn't
-abbrev pub step_of : Mb → Result Bool SliceFault → Result Step SliceFault
-step_of mb (Ok true) = Ok (steps.Mb mb)
-step_of mb (Ok false) = Ok steps.End
-step_of mb (Err fault) = Err fault
+Gave at reader shape pos all done = StandsFor at reader shape pos all done × AreGiven HasText IsText shape pos all done

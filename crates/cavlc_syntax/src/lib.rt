@@ -3,15 +3,13 @@
 //! reader and a writer stand for. `laws` has what the layers above rest on.
 #![tactic(auto)]
 
+mod around;
 mod bound;
 mod end;
-mod fault;
 pub mod laws;
 mod reader;
-mod row;
 mod run;
 mod writer;
 
-pub use fault::{PutFault, SliceFault};
-pub use reader::{CavlcReader, Step};
+pub use reader::CavlcReader;
 pub use writer::CavlcWriter;

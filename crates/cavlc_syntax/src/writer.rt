@@ -3,18 +3,18 @@ ghost use Rattle.std.specs.Prelude.{◌≡◌, ◌≤◌, length};
 ghost use Rattle.bit_texts.specs.Texts.{Appends};
 ghost use Rattle.cavlc_macroblock.specs.Reading.{IsSent};
 ghost use Rattle.cavlc_mb_residual.specs.Counts.{IsAround};
-ghost use Rattle.cavlc_syntax.specs.Row.{IsInRows};
+ghost use Rattle.cavlc_syntax.specs.Kept.{AreOfShape};
 ghost use Rattle.cavlc_syntax.specs.SliceText.{put_text};
 
+use crate::around::around_next;
 use crate::bound::{needs_longer_prefix, prefix_bound};
 use crate::end::write_end;
-use crate::fault::PutFault;
-use crate::row::CountRow;
 use crate::run::{write_last_run, write_run};
 use cavlc_macroblock::write_macroblock;
-use cavlc_mb_residual::Around;
+use cavlc_mb_residual::{Around, Counts};
 use exp_golomb::BitSink;
-use h264_types::{Mb, SliceShape};
+use h264_types::{Layer, Mb, Rows, SliceShape};
+use slice_data::{PutFault, SliceWriter};
 use std::alloc::{AllocError as Memory, Global};
 
 /// A writer of slice data. It stands for the bits before the slice data, and for the macroblocks that were put.
@@ -22,22 +22,21 @@ use std::alloc::{AllocError as Memory, Global};
 pub struct CavlcWriter<B> {
     shape: SliceShape,
     bits: B,
-    /// How many macroblocks were put.
-    count: u32,
-    row: CountRow,
+    /// What the last macroblocks put count, for the nC of the next one (9.2.1).
+    rows: Rows<Counts>,
     /// How many of the last ones are skipped, and in no mb_skip_run yet.
     run: u32,
-    ghost in_rows: { IsInRows shape },
+    ghost of_shape: { AreOfShape shape rows },
     ghost few: { run ≤ 139264 },
-    ghost kept: { length row.counts.items ≡ shape.width },
 }
 
 impl<B: BitSink> CavlcWriter<B> {
-    ghost use Rattle.std.specs.Prelude.{◌≡◌, ◌++◌, ◌∷◌, [], Bool, List, length, IfOk};
+    ghost use Rattle.std.specs.Prelude.{[], ◌∷◌, ◌++◌, Bool, List, length, IfOk};
     ghost use Rattle.h264_types.specs.declared.macroblock.Mb.{Mb};
     ghost use Rattle.h264_types.specs.declared.slice_shape.SliceShape.{SliceShape};
-    ghost use Rattle.cavlc_syntax.specs.SliceText.{IsBuiltShape, slice_text};
-    ghost use Rattle.cavlc_syntax.specs.Written.{WritesFor, MayPut, PutGives};
+    ghost use Rattle.cavlc_syntax.specs.SliceText.{IsBuiltShape, is_beyond_in};
+    ghost use Rattle.cavlc_syntax.specs.Written.{WritesFor, PutsBits};
+    ghost use Rattle.slice_data.specs.Writing.{BeginsSlice, PutGives};
 
     /// A writer of slice data behind what was put into `bits`. Puts no bit.
     pub fn start(alloc: Global, shape: SliceShape, bits: B) -> Result<CavlcWriter<B>, Memory>
@@ -45,12 +44,11 @@ impl<B: BitSink> CavlcWriter<B> {
         ensures writes { IfOk result (λ writer. WritesFor B.bits writer shape (B.bits bits) []) }
         ensures bits { IfOk result (λ writer. writer.bits ≡ bits) }
     {
-        let row = CountRow::new(alloc, &shape)?;
+        let rows = Rows::start(alloc, &shape)?;
         Ok(CavlcWriter {
             shape,
             bits,
-            count: 0,
-            row,
+            rows,
             run: 0,
         })
     }
@@ -59,33 +57,52 @@ impl<B: BitSink> CavlcWriter<B> {
     /// the end. Beyond: a level needs a longer level_prefix than the profile has, and nothing was written; another
     /// macroblock may follow. Where memory runs out a front of the text was written.
     pub fn put(&mut self, mb: &Mb) -> Result<(), PutFault>
-        requires { MayPut B.bits self.old mb.now }
-        ensures { (shape : SliceShape) (before : List Bool) (done : List Mb) → WritesFor B.bits self.old shape before done → PutGives B.bits self.old self.new shape before done mb.now result }
+        requires { (shape : SliceShape) × (before : List Bool) × (done : List Mb) × WritesFor B.bits self.old shape before done × BeginsSlice shape (done ++ mb.now ∷ []) }
+        ensures gives { (shape : SliceShape) (before : List Bool) (done : List Mb) → WritesFor B.bits self.old shape before done
+            → PutGives is_beyond_in (WritesFor B.bits) self.new shape before done mb.now result }
+        ensures bits { (shape : SliceShape) (before : List Bool) (done : List Mb) → WritesFor B.bits self.old shape before done
+            → PutsBits shape done self.old.run (B.bits self.old.bits) (B.bits self.new.bits) mb.now result }
     {
         if mb.kind.is_skip() {
-            self.row.push(&self.shape, self.count, mb);
-            self.count += 1;
+            self.rows.push(mb);
             self.run += 1;
             return Ok(());
         }
         if needs_longer_prefix(mb, prefix_bound(&self.shape)) {
             return Err(PutFault::Beyond);
         }
-        let around = self.row.around(&self.shape, self.count);
+        let around = around_next(&self.rows);
         let Ok(()) = write_coded(&mut self.bits, &self.shape, &around, self.run, mb) else {
             return Err(PutFault::Memory);
         };
-        self.row.push(&self.shape, self.count, mb);
-        self.count += 1;
+        self.rows.push(mb);
         self.run = 0;
         Ok(())
     }
+}
 
-    /// Writes what follows the last macroblock, and gives the sink back.
-    pub fn finish(self) -> Result<B, Memory>
-        ensures { (shape : SliceShape) (before : List Bool) (done : List Mb) → WritesFor B.bits self shape before done
-            → IfOk result (λ bits. B.bits bits ≡ before ++ slice_text shape (length before) done) }
-    {
+impl<B: BitSink> SliceWriter for CavlcWriter<B> {
+    ghost use Rattle.h264_types.specs.declared.layer.Layer.TheVariants.{Cavlc};
+    ghost use Rattle.cavlc_syntax.specs.SliceText.{IsText, is_beyond_in};
+    ghost use Rattle.cavlc_syntax.specs.Written.{WritesFor};
+
+    type Sink = B;
+
+    const LAYER: Layer = Layer::Cavlc;
+
+    ghost LAYER = { Cavlc };
+
+    ghost is_data = { λ _. IsText };
+
+    ghost is_beyond = { is_beyond_in };
+
+    ghost writes = { λ _. WritesFor B.bits };
+
+    fn put(&mut self, mb: &Mb) -> Result<(), PutFault> {
+        CavlcWriter::put(self, mb)
+    }
+
+    fn finish(self) -> Result<B, Memory> {
         let CavlcWriter {
             mut bits,
             shape,

@@ -2,9 +2,10 @@
 ghost use Rattle.std.specs.Prelude.{IsTrue};
 ghost use Rattle.cavlc_syntax.specs.SliceText.{IsBuiltShape};
 
-use cavlc_syntax::{CavlcReader, SliceFault, Step};
+use cavlc_syntax::CavlcReader;
 use exp_golomb::{BitSource, SliceBits};
 use h264_types::{SliceKind, SliceShape};
+use slice_data::{SliceFault, SliceReader, Step};
 use std::alloc::Global;
 use std::test::Fail;
 
@@ -45,6 +46,19 @@ fn bytes_of(alloc: Global, runs: &[(u16, u8)]) -> Result<Vec<u8>, Fail> {
 }
 
 /// How many macroblocks a reader gives, how many of them are skipped, and its refusal, if any.
+fn count<R: SliceReader>(reader: &mut R) -> (u8, u8, Option<SliceFault>) {
+    let mut skipped = 0u8;
+    for count in 0..100u8 {
+        match reader.next() {
+            Ok(Step::Mb(mb)) => skipped = skipped.saturating_add(u8::from(mb.kind.is_skip())),
+            Ok(Step::End) => return (count, skipped, None),
+            Err(fault) => return (count, skipped, Some(fault)),
+        }
+    }
+    (100, skipped, None)
+}
+
+/// The same of slice data in CAVLC, of which no bit is left behind the end.
 fn read(
     alloc: Global,
     shape: SliceShape,
@@ -53,18 +67,12 @@ fn read(
     requires { IsBuiltShape shape }
 {
     let mut reader = CavlcReader::start(alloc, shape, bits)?;
-    let mut skipped = 0u8;
-    for count in 0..100u8 {
-        match reader.next() {
-            Ok(Step::Mb(mb)) => skipped = skipped.saturating_add(u8::from(mb.kind.is_skip())),
-            Ok(Step::End) => {
-                let left = reader.into_bits().bit();
-                return Ok((count, skipped, left.map(|_| SliceFault::Memory)));
-            }
-            Err(fault) => return Ok((count, skipped, Some(fault))),
-        }
+    let (given, skipped, fault) = count(&mut reader);
+    if fault.is_none() {
+        let behind = reader.into_bits().bit();
+        behind.map_or(Ok(()), |_| Err("a bit is left behind the end"))?;
     }
-    Ok((100, skipped, None))
+    Ok((given, skipped, fault))
 }
 
 const NO_READING: Option<SliceFault> = Some(SliceFault::NoReading);

@@ -6,12 +6,12 @@ pub returns-in_default : goal.returns-in_default
 returns-in_default g c shape pos all done =
     let r = c.args.self.now in
     let at = place_in g.B.BitSource.taken g.B.BitSource.left in
-    refuse_coded r.shape r.count r.row.counts.items (at r.bits) (at c.read_macroblock.new.bits) c.read_macroblock.new.mb c.around-around.result c.prefix_bound-bound.result shape pos all done
-    c.around-around.ensures.value c.prefix_bound-bound.ensures.value c.in_default.ensures
+    refuse_coded r.shape r.rows (at r.bits) (at c.read_macroblock.new.bits) c.read_macroblock.new.mb c.around_next-around.result c.prefix_bound-bound.result shape pos all done
+    c.around_next-around.ensures.value c.prefix_bound-bound.ensures.value c.in_default.ensures
 
 pub returns : goal.returns
 returns g c shape pos all done =
     let r = c.args.self.now in
     let at = place_in g.B.BitSource.taken g.B.BitSource.left in
-    stands_coded r.shape r.count r.row.counts.items c.push.new.self.counts.items (at r.bits) (at c.read_macroblock.new.bits) c.read_macroblock.new.mb c.around-around.result c.prefix_bound-bound.result shape pos all done
-    c.requires c.around-around.ensures.value c.prefix_bound-bound.ensures.value c.push.ensures.row c.in-Some.ensures
+    stands_coded r.shape r.rows c.push.new.self (at r.bits) (at c.read_macroblock.new.bits) c.read_macroblock.new.mb c.around_next-around.result c.prefix_bound-bound.result shape pos all done
+    c.requires c.around_next-around.ensures.value c.prefix_bound-bound.ensures.value c.push.ensures.rows c.in-Some.ensures

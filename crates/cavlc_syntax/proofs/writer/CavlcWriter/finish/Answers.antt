@@ -1,5 +1,0 @@
-use Rattle.cavlc_syntax.proofs.Put.{put_end}
-use Rattle.cavlc_syntax.proofs.writer.CavlcWriter.finish.Goals as goal
-
-pub returns : goal.returns
-returns g c shape before done w = put_end _ _ _ _ _ _ _ shape before done w c.in_ok-write_last_run.ensures c.in_ok-write_end.ensures
