@@ -1,4 +1,4 @@
--- The luma blocks of a macroblock as CAVLC sends them (ITU-T H.264, 7.3.5.3.2).
+-- The luma blocks of a macroblock as CAVLC sends them (ITU-T H.264, 7.3.5.3.1).
 use Rattle.std.specs.Prelude.{ℕ, ◌+◌, ◌*◌, ◌/◌, ◌%◌, if◌then◌else◌, ℤ, pos, List, [], ◌∷◌, ◌++◌, slice_index_or}
 use Rattle.h264_types.specs.Macroblock.{quarter_of, luma_block}
 use Rattle.h264_types.specs.declared.macroblock.Mb.{Mb}

@@ -1,4 +1,4 @@
-//! The luma levels under the 8x8 transform: the 64 of a quarter are sent as four lists, which take turns (7.3.5.3.2).
+//! The luma levels under the 8x8 transform: the 64 of a quarter are sent as four lists, which take turns (7.3.5.3.1).
 ghost use Rattle.std.specs.Prelude.{◌≡◌, ◌+◌, ◌*◌, ◌/◌, ◌%◌, ◌<◌, ℕ, pos, length, slice_index_or};
 ghost use Rattle.h264_types.specs.Macroblock.{luma_block};
 ghost use Rattle.cavlc_mb_residual.specs.LumaBlocks as lists;
