@@ -1,10 +1,8 @@
 -- The elements before each one stay.
-use Rattle.std.proofs.Common.{◌≡◌, ℕ, ◌*◌, pos, Bool, true, false, cond, List, Option, Some, None, IfSome, refl, sym, ap, ◌∙◌}
-use Rattle.std.specs.Prelude.{option_map, not, ◌==◌, slice_set}
-use Rattle.cabac_engine.specs.Bins.{Slot}
-use Rattle.binarisation.specs.BinString.{Value, Reads, ◌>>=◌}
+use Rattle.std.proofs.Common.{◌≡◌, ℕ, ◌*◌, pos, true, false, cond, List, refl, ap, ◌∙◌}
+use Rattle.std.specs.Prelude.{not, ◌==◌, slice_set}
+use Rattle.binarisation.specs.BinString.{Value, ◌>>=◌}
 use Rattle.binarisation.specs.Elements as syntax
-use Rattle.binarisation.proofs.Spelling.{reads_gave}
 use Rattle.cabac_residual.specs.Block.{block}
 use Rattle.h264_types.specs.Kind.{is_i_nxn, is_i_16x16, is_i_pcm}
 use Rattle.h264_types.specs.Macroblock.{pattern_of}
@@ -145,12 +143,3 @@ elements_kept shape done at w mb is =
     (keeps_then P P (intra_prediction shape done at mb) (pattern shape done at) (prediction_kept shape done at w mb is)
     (λ m h bins value g. ap before_t8 (pattern_kept shape done at (before_pattern m) m refl bins value g) ∙ h))
     (λ m h bins value g. ap before_t8 (coding_kept shape done at (before_qp_delta m) m refl bins value g) ∙ h))
-
--- the type of a macroblock that was read is the one that its string began with
-pub over_kept : {S : Type 0} (step : S → Slot → Option Bool → S → Type 0) (shape : SliceShape) (done : List Mb) (at : ℕ) (mb made : Mb) (over : Bool) (result : Option (Unit {0})) (s t : S)
-    → Reads step (elements shape done at mb) (option_map (λ _. made) result) s t → IfSome result (λ _. over ≡ is_i_pcm mb.kind) → IfSome result (λ _. over ≡ is_i_pcm made.kind)
-over_kept step shape done at mb made over None s t read is = tt
-over_kept step shape done at mb made over (Some u) s t read is =
-    let gave = reads_gave step (elements shape done at mb) made s t read in
-    let same = elements_kept shape done at (before_t8 mb) mb refl gave.0 made gave.1 in
-    is ∙ ap (λ (m : Mb). is_i_pcm m.kind) (sym same)

@@ -1,9 +1,11 @@
 //! mb_qp_delta and the residual (ITU-T H.264, 7.3.5).
-ghost use Rattle.std.specs.Prelude.{◌≡◌, ◌≤◌, length, option_map, false, true, OnOk, OnSome, OnErr};
+ghost use Rattle.std.specs.Prelude.{◌≡◌, option_map, false, true, OnOk, OnSome, OnErr, List};
 ghost use Rattle.binarisation.specs.BinString.{Reads, Writes};
 ghost use Rattle.h264_types.specs.Slice.{IsInPicture};
 ghost use Rattle.h264_types.specs.Sizes.{HasSizes};
 ghost use Rattle.h264_types.specs.Valid.{IsQpDelta};
+ghost use Rattle.h264_types.specs.LastRows.{StandsAt};
+ghost use Rattle.h264_types.specs.declared.macroblock.Mb.{Mb};
 ghost use Rattle.cabac_mb_residual.specs.Levels.{IsResidual, without_levels};
 ghost use Rattle.cabac_macroblock.specs.MacroblockLayer as layer;
 ghost use Rattle.cabac_macroblock.specs.Stages.{before_qp_delta};
@@ -12,21 +14,21 @@ use binarisation::{read_qp_delta, write_qp_delta};
 use cabac_contexts::ctx_inc_qp_delta;
 use cabac_engine::{BinSink, BinSource};
 use cabac_mb_residual::{read_residual, write_residual};
-use h264_types::{Mb, SliceShape};
+use h264_types::{Mb, Rows, SliceShape};
 use std::alloc::AllocError as Memory;
 
 /// Reads mb_qp_delta.
 fn read_delta<S: BinSource>(
     s: &mut S,
     shape: &SliceShape,
-    done: &[Mb],
+    done: &Rows<Mb>,
     at: u32,
     mb: &mut Mb,
 ) -> Option<()>
     requires going { S.over s.old ≡ false }
-    requires done { at ≤ length done.now }
-    ensures reads { Reads S.step (layer.qp_delta done.now at mb.old) (option_map (λ _. mb.new) result) s.old s.new }
+    ensures reads { (mbs : List Mb) → StandsAt (λ mb. mb) shape.now done.now mbs at → Reads S.step (layer.qp_delta mbs at mb.old) (option_map (λ _. mb.new) result) s.old s.new }
     ensures going { OnSome result (S.over s.new ≡ false) }
+    ensures kind { mb.new.kind ≡ mb.old.kind }
 {
     let inc = ctx_inc_qp_delta(shape, done, at, mb.field, mb);
     mb.qp_delta = read_qp_delta(s, inc)?;
@@ -37,15 +39,15 @@ fn read_delta<S: BinSource>(
 pub fn read_coding<S: BinSource>(
     s: &mut S,
     shape: &SliceShape,
-    done: &[Mb],
+    done: &Rows<Mb>,
     at: u32,
     mb: &mut Mb,
 ) -> Option<()>
     requires going { S.over s.old ≡ false }
     requires picture { IsInPicture shape.now at }
-    requires done { at ≤ length done.now }
-    ensures reads { Reads S.step (layer.coding shape.now done.now at mb.old) (option_map (λ _. mb.new) result) s.old s.new }
+    ensures reads { (mbs : List Mb) → StandsAt (λ mb. mb) shape.now done.now mbs at → Reads S.step (layer.coding shape.now mbs at mb.old) (option_map (λ _. mb.new) result) s.old s.new }
     ensures going { OnSome result (S.over s.new ≡ false) }
+    ensures kind { mb.new.kind ≡ mb.old.kind }
 {
     if mb.kind.sends_qp_delta(mb.pattern) {
         read_delta(s, shape, done, at, mb)?;
@@ -58,14 +60,13 @@ pub fn read_coding<S: BinSource>(
 fn write_delta<S: BinSink>(
     s: &mut S,
     shape: &SliceShape,
-    done: &[Mb],
+    done: &Rows<Mb>,
     at: u32,
     mb: &Mb,
 ) -> Result<(), Memory>
     requires going { S.over s.old ≡ false }
-    requires done { at ≤ length done.now }
     requires delta { IsQpDelta mb.now }
-    ensures writes { OnOk result (Writes S.step (layer.qp_delta done.now at (before_qp_delta mb.now)) (without_levels mb.now) s.old s.new) }
+    ensures writes { (mbs : List Mb) → StandsAt (λ mb. mb) shape.now done.now mbs at → OnOk result (Writes S.step (layer.qp_delta mbs at (before_qp_delta mb.now)) (without_levels mb.now) s.old s.new) }
     ensures going { OnOk result (S.over s.new ≡ false) }
     ensures err { OnErr result (S.over s.new ≡ true) }
 {
@@ -77,17 +78,16 @@ fn write_delta<S: BinSink>(
 pub fn write_coding<S: BinSink>(
     s: &mut S,
     shape: &SliceShape,
-    done: &[Mb],
+    done: &Rows<Mb>,
     at: u32,
     mb: &Mb,
 ) -> Result<(), Memory>
     requires going { S.over s.old ≡ false }
     requires picture { IsInPicture shape.now at }
-    requires done { at ≤ length done.now }
     requires sizes { HasSizes mb.now }
     requires delta { IsQpDelta mb.now }
     requires residual { IsResidual mb.now }
-    ensures writes { OnOk result (Writes S.step (layer.coding shape.now done.now at (before_qp_delta mb.now)) mb.now s.old s.new) }
+    ensures writes { (mbs : List Mb) → StandsAt (λ mb. mb) shape.now done.now mbs at → OnOk result (Writes S.step (layer.coding shape.now mbs at (before_qp_delta mb.now)) mb.now s.old s.new) }
     ensures going { OnOk result (S.over s.new ≡ false) }
     ensures err { OnErr result (S.over s.new ≡ true) }
 {

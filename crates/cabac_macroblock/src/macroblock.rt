@@ -1,10 +1,12 @@
 //! One macroblock of an I slice (ITU-T H.264, 7.3.5).
-ghost use Rattle.std.specs.Prelude.{◌≡◌, ◌≤◌, length, option_map, false, true, IfSome, OnOk, OnErr};
+ghost use Rattle.std.specs.Prelude.{◌≡◌, option_map, false, true, IfSome, OnOk, OnErr, List};
 ghost use Rattle.binarisation.specs.BinString.{Reads, Writes};
 ghost use Rattle.h264_types.specs.Slice.{IsInPicture};
 ghost use Rattle.h264_types.specs.Kind.{is_intra, is_i_pcm};
 ghost use Rattle.h264_types.specs.declared.macroblock.MbKind.TheVariants.{Intra};
 ghost use Rattle.h264_types.specs.Valid.{IsMacroblock};
+ghost use Rattle.h264_types.specs.LastRows.{StandsAt};
+ghost use Rattle.h264_types.specs.declared.macroblock.Mb.{Mb};
 ghost use Rattle.cabac_mb_residual.specs.Levels.{IsResidual};
 ghost use Rattle.cabac_macroblock.specs.MacroblockLayer as layer;
 ghost use Rattle.cabac_macroblock.specs.Stages.{before_t8};
@@ -15,23 +17,22 @@ use crate::prediction::{read_prediction, write_prediction};
 use binarisation::{read_type_i, write_type_i};
 use cabac_contexts::ctx_inc_type_i;
 use cabac_engine::{BinSink, BinSource};
-use h264_types::{Mb, MbKind, SliceShape};
+use h264_types::{Mb, MbKind, Rows, SliceShape};
 use std::alloc::AllocError as Memory;
 
 /// Reads the elements behind mb_type of a macroblock that has its type and no other element.
 fn read_elements<S: BinSource>(
     s: &mut S,
     shape: &SliceShape,
-    done: &[Mb],
+    done: &Rows<Mb>,
     at: u32,
     mb: &mut Mb,
 ) -> Option<()>
     requires over { S.over s.old ≡ is_i_pcm mb.old.kind }
     requires picture { IsInPicture shape.now at }
-    requires done { at ≤ length done.now }
     requires none { mb.old.pattern.luma ≡ 0 }
-    ensures reads { Reads S.step (layer.elements shape.now done.now at mb.old) (option_map (λ _. mb.new) result) s.old s.new }
-    ensures over { IfSome result (λ _. S.over s.new ≡ is_i_pcm mb.old.kind) }
+    ensures reads { (mbs : List Mb) → StandsAt (λ mb. mb) shape.now done.now mbs at → Reads S.step (layer.elements shape.now mbs at mb.old) (option_map (λ _. mb.new) result) s.old s.new }
+    ensures over { IfSome result (λ _. S.over s.new ≡ is_i_pcm mb.new.kind) }
 {
     if mb.kind.is_i_pcm() {
         return Some(());
@@ -41,22 +42,21 @@ fn read_elements<S: BinSource>(
     read_coding(s, shape, done, at, mb)
 }
 
-/// Reads a macroblock of an I slice, its mb_type first, into the one that is lent. `done` has the macroblocks of the slice
-/// before number `at`, and `field` is the flag of its pair, false outside MBAFF. Behind I_PCM no bin may be asked for, and its
-/// samples are left to be read. None where the source ran out, or an element is out of its range; what the macroblock then
-/// holds isn't said.
+/// Reads a macroblock of an I slice, its mb_type first, into the one that is lent. `done` has the last two rows of the slice's
+/// macroblocks, of which number `at` is the next one or the last one, in MBAFF in the pair of one of them; `field` is the flag
+/// of its pair, false outside MBAFF. Behind I_PCM no bin may be asked for, and its samples are left to be read. None where the
+/// source ran out, or an element is out of its range; what the macroblock then holds isn't said.
 pub fn read_macroblock<S: BinSource>(
     s: &mut S,
     shape: &SliceShape,
-    done: &[Mb],
+    done: &Rows<Mb>,
     at: u32,
     field: bool,
     mb: &mut Mb,
 ) -> Option<()>
     requires going { S.over s.old ≡ false }
     requires picture { IsInPicture shape.now at }
-    requires done { at ≤ length done.now }
-    ensures reads { Reads S.step (layer.macroblock_i shape.now done.now at field) (option_map (λ _. mb.new) result) s.old s.new }
+    ensures reads { (mbs : List Mb) → StandsAt (λ mb. mb) shape.now done.now mbs at → Reads S.step (layer.macroblock_i shape.now mbs at field) (option_map (λ _. mb.new) result) s.old s.new }
     ensures over { IfSome result (λ _. S.over s.new ≡ is_i_pcm mb.new.kind) }
 {
     *mb = Mb::without_elements(MbKind::Intra(0));
@@ -70,17 +70,16 @@ pub fn read_macroblock<S: BinSource>(
 fn write_elements<S: BinSink>(
     s: &mut S,
     shape: &SliceShape,
-    done: &[Mb],
+    done: &Rows<Mb>,
     at: u32,
     mb: &Mb,
 ) -> Result<(), Memory>
     requires over { S.over s.old ≡ is_i_pcm mb.now.kind }
     requires picture { IsInPicture shape.now at }
-    requires done { at ≤ length done.now }
     requires valid { IsMacroblock shape.now mb.now }
     requires intra { is_intra mb.now.kind ≡ true }
     requires residual { IsResidual mb.now }
-    ensures writes { OnOk result (Writes S.step (layer.elements shape.now done.now at (before_t8 (layer.without_samples mb.now))) (layer.without_samples mb.now) s.old s.new) }
+    ensures writes { (mbs : List Mb) → StandsAt (λ mb. mb) shape.now done.now mbs at → OnOk result (Writes S.step (layer.elements shape.now mbs at (before_t8 (layer.without_samples mb.now))) (layer.without_samples mb.now) s.old s.new) }
     ensures over { OnOk result (S.over s.new ≡ is_i_pcm mb.now.kind) }
     ensures err { OnErr result (S.over s.new ≡ true) }
 {
@@ -107,17 +106,16 @@ fn type_number(kind: MbKind) -> u8
 pub fn write_macroblock<S: BinSink>(
     s: &mut S,
     shape: &SliceShape,
-    done: &[Mb],
+    done: &Rows<Mb>,
     at: u32,
     mb: &Mb,
 ) -> Result<(), Memory>
     requires going { S.over s.old ≡ false }
     requires picture { IsInPicture shape.now at }
-    requires done { at ≤ length done.now }
     requires valid { IsMacroblock shape.now mb.now }
     requires intra { is_intra mb.now.kind ≡ true }
     requires residual { IsResidual mb.now }
-    ensures writes { OnOk result (Writes S.step (layer.macroblock_i shape.now done.now at mb.now.field) (layer.without_samples mb.now) s.old s.new) }
+    ensures writes { (mbs : List Mb) → StandsAt (λ mb. mb) shape.now done.now mbs at → OnOk result (Writes S.step (layer.macroblock_i shape.now mbs at mb.now.field) (layer.without_samples mb.now) s.old s.new) }
     ensures over { OnOk result (S.over s.new ≡ is_i_pcm mb.now.kind) }
     ensures err { OnErr result (S.over s.new ≡ true) }
 {

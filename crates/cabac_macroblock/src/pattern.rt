@@ -1,9 +1,11 @@
 //! coded_block_pattern (ITU-T H.264, 7.3.5).
-ghost use Rattle.std.specs.Prelude.{◌≡◌, ◌+◌, ◌^◌, ◌<◌, ◌≤◌, length, option_map, false, true, OnOk, OnSome, OnErr};
+ghost use Rattle.std.specs.Prelude.{◌≡◌, ◌+◌, ◌^◌, ◌<◌, ◌≤◌, option_map, false, true, OnOk, OnSome, OnErr, List};
 ghost use Rattle.binarisation.specs.BinString.{Reads, Writes};
 ghost use Rattle.h264_types.specs.Slice.{IsInPicture};
 ghost use Rattle.h264_types.specs.Sent.{sends_pattern};
 ghost use Rattle.h264_types.specs.Valid.{IsPattern};
+ghost use Rattle.h264_types.specs.LastRows.{StandsAt};
+ghost use Rattle.h264_types.specs.declared.macroblock.Mb.{Mb};
 ghost use Rattle.cabac_macroblock.specs.CodedBlockPattern as pattern;
 ghost use Rattle.cabac_macroblock.specs.Stages.{before_pattern, before_chroma_pattern, before_qp_delta};
 
@@ -12,24 +14,23 @@ use binarisation::{
 };
 use cabac_contexts::{ctx_inc_chroma, ctx_inc_luma};
 use cabac_engine::{BinSink, BinSource};
-use h264_types::{Mb, SliceShape};
+use h264_types::{Mb, Rows, SliceShape};
 use std::alloc::AllocError as Memory;
 
 /// Reads the bit of a luma quarter.
 fn read_luma_bit<S: BinSource>(
     s: &mut S,
     shape: &SliceShape,
-    done: &[Mb],
+    done: &Rows<Mb>,
     at: u32,
     quarter: u8,
     mb: &mut Mb,
 ) -> Option<()>
     requires going { S.over s.old ≡ false }
     requires picture { IsInPicture shape.now at }
-    requires done { at ≤ length done.now }
     requires quarter { quarter < 4 }
     requires before { mb.old.pattern.luma < 2 ^ quarter }
-    ensures reads { Reads S.step (pattern.luma_bit shape.now done.now at quarter mb.old) (option_map (λ _. mb.new) result) s.old s.new }
+    ensures reads { (mbs : List Mb) → StandsAt (λ mb. mb) shape.now done.now mbs at → Reads S.step (pattern.luma_bit shape.now mbs at quarter mb.old) (option_map (λ _. mb.new) result) s.old s.new }
     ensures going { OnSome result (S.over s.new ≡ false) }
     ensures bits { mb.new.pattern.luma < 2 ^ (quarter + 1) }
     ensures others { mb.new ≡ record mb.old { pattern = record mb.old.pattern { luma = mb.new.pattern.luma } } }
@@ -45,15 +46,14 @@ fn read_luma_bit<S: BinSource>(
 fn read_luma<S: BinSource>(
     s: &mut S,
     shape: &SliceShape,
-    done: &[Mb],
+    done: &Rows<Mb>,
     at: u32,
     mb: &mut Mb,
 ) -> Option<()>
     requires going { S.over s.old ≡ false }
     requires picture { IsInPicture shape.now at }
-    requires done { at ≤ length done.now }
     requires none { mb.old.pattern.luma ≡ 0 }
-    ensures reads { Reads S.step (pattern.luma_bits shape.now done.now at mb.old) (option_map (λ _. mb.new) result) s.old s.new }
+    ensures reads { (mbs : List Mb) → StandsAt (λ mb. mb) shape.now done.now mbs at → Reads S.step (pattern.luma_bits shape.now mbs at mb.old) (option_map (λ _. mb.new) result) s.old s.new }
     ensures going { OnSome result (S.over s.new ≡ false) }
     ensures others { mb.new ≡ record mb.old { pattern = record mb.old.pattern { luma = mb.new.pattern.luma } } }
 {
@@ -67,14 +67,13 @@ fn read_luma<S: BinSource>(
 fn read_chroma<S: BinSource>(
     s: &mut S,
     shape: &SliceShape,
-    done: &[Mb],
+    done: &Rows<Mb>,
     at: u32,
     mb: &mut Mb,
 ) -> Option<()>
     requires going { S.over s.old ≡ false }
     requires picture { IsInPicture shape.now at }
-    requires done { at ≤ length done.now }
-    ensures reads { Reads S.step (pattern.chroma_pattern shape.now done.now at mb.old) (option_map (λ _. mb.new) result) s.old s.new }
+    ensures reads { (mbs : List Mb) → StandsAt (λ mb. mb) shape.now done.now mbs at → Reads S.step (pattern.chroma_pattern shape.now mbs at mb.old) (option_map (λ _. mb.new) result) s.old s.new }
     ensures going { OnSome result (S.over s.new ≡ false) }
     ensures others { mb.new ≡ record mb.old { pattern = record mb.old.pattern { chroma = mb.new.pattern.chroma } } }
 {
@@ -88,15 +87,14 @@ fn read_chroma<S: BinSource>(
 pub fn read_pattern<S: BinSource>(
     s: &mut S,
     shape: &SliceShape,
-    done: &[Mb],
+    done: &Rows<Mb>,
     at: u32,
     mb: &mut Mb,
 ) -> Option<()>
     requires going { S.over s.old ≡ false }
     requires picture { IsInPicture shape.now at }
-    requires done { at ≤ length done.now }
     requires none { mb.old.pattern.luma ≡ 0 }
-    ensures reads { Reads S.step (pattern.pattern shape.now done.now at mb.old) (option_map (λ _. mb.new) result) s.old s.new }
+    ensures reads { (mbs : List Mb) → StandsAt (λ mb. mb) shape.now done.now mbs at → Reads S.step (pattern.pattern shape.now mbs at mb.old) (option_map (λ _. mb.new) result) s.old s.new }
     ensures going { OnSome result (S.over s.new ≡ false) }
     ensures others { mb.new ≡ record mb.old { pattern = mb.new.pattern } }
 {
@@ -111,16 +109,15 @@ pub fn read_pattern<S: BinSource>(
 fn write_luma<S: BinSink>(
     s: &mut S,
     shape: &SliceShape,
-    done: &[Mb],
+    done: &Rows<Mb>,
     at: u32,
     mb: &Mb,
 ) -> Result<(), Memory>
     requires going { S.over s.old ≡ false }
     requires picture { IsInPicture shape.now at }
-    requires done { at ≤ length done.now }
     requires sent { sends_pattern mb.now.kind ≡ true }
     requires luma { mb.now.pattern.luma ≤ 15 }
-    ensures writes { OnOk result (Writes S.step (pattern.luma_bits shape.now done.now at (before_pattern mb.now)) (before_chroma_pattern mb.now) s.old s.new) }
+    ensures writes { (mbs : List Mb) → StandsAt (λ mb. mb) shape.now done.now mbs at → OnOk result (Writes S.step (pattern.luma_bits shape.now mbs at (before_pattern mb.now)) (before_chroma_pattern mb.now) s.old s.new) }
     ensures going { OnOk result (S.over s.new ≡ false) }
     ensures err { OnErr result (S.over s.new ≡ true) }
 {
@@ -136,15 +133,14 @@ fn write_luma<S: BinSink>(
 fn write_chroma<S: BinSink>(
     s: &mut S,
     shape: &SliceShape,
-    done: &[Mb],
+    done: &Rows<Mb>,
     at: u32,
     mb: &Mb,
 ) -> Result<(), Memory>
     requires going { S.over s.old ≡ false }
     requires picture { IsInPicture shape.now at }
-    requires done { at ≤ length done.now }
     requires chroma { mb.now.pattern.chroma ≤ 2 }
-    ensures writes { OnOk result (Writes S.step (pattern.chroma_pattern shape.now done.now at (before_chroma_pattern mb.now)) (before_qp_delta mb.now) s.old s.new) }
+    ensures writes { (mbs : List Mb) → StandsAt (λ mb. mb) shape.now done.now mbs at → OnOk result (Writes S.step (pattern.chroma_pattern shape.now mbs at (before_chroma_pattern mb.now)) (before_qp_delta mb.now) s.old s.new) }
     ensures going { OnOk result (S.over s.new ≡ false) }
     ensures err { OnErr result (S.over s.new ≡ true) }
 {
@@ -157,15 +153,14 @@ fn write_chroma<S: BinSink>(
 pub fn write_pattern<S: BinSink>(
     s: &mut S,
     shape: &SliceShape,
-    done: &[Mb],
+    done: &Rows<Mb>,
     at: u32,
     mb: &Mb,
 ) -> Result<(), Memory>
     requires going { S.over s.old ≡ false }
     requires picture { IsInPicture shape.now at }
-    requires done { at ≤ length done.now }
     requires pattern { IsPattern mb.now }
-    ensures writes { OnOk result (Writes S.step (pattern.pattern shape.now done.now at (before_pattern mb.now)) (before_qp_delta mb.now) s.old s.new) }
+    ensures writes { (mbs : List Mb) → StandsAt (λ mb. mb) shape.now done.now mbs at → OnOk result (Writes S.step (pattern.pattern shape.now mbs at (before_pattern mb.now)) (before_qp_delta mb.now) s.old s.new) }
     ensures going { OnOk result (S.over s.new ≡ false) }
     ensures err { OnErr result (S.over s.new ≡ true) }
 {

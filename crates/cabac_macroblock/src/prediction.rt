@@ -1,10 +1,12 @@
 //! The prediction of intra macroblocks (ITU-T H.264, 7.3.5.1).
-ghost use Rattle.std.specs.Prelude.{◌≡◌, ◌<◌, ◌≤◌, ℕ, length, option_map, false, true, slice_index, IfSome, OnOk, OnSome, OnErr};
+ghost use Rattle.std.specs.Prelude.{◌≡◌, ◌<◌, ◌≤◌, ℕ, option_map, false, true, slice_index, IfSome, OnOk, OnSome, OnErr, List};
 ghost use Rattle.binarisation.specs.BinString.{Reads, Writes};
 ghost use Rattle.h264_types.specs.Sent.{sends_t8_first};
 ghost use Rattle.h264_types.specs.Slice.{IsInPicture};
 ghost use Rattle.h264_types.specs.Sizes.{HasSizes};
 ghost use Rattle.h264_types.specs.Valid.{mode_bound, IsIntraPredicted};
+ghost use Rattle.h264_types.specs.LastRows.{StandsAt};
+ghost use Rattle.h264_types.specs.declared.macroblock.Mb.{Mb};
 ghost use Rattle.cabac_macroblock.specs.IntraPrediction as intra;
 ghost use Rattle.cabac_macroblock.specs.Stages.{before_t8, before_modes, before_chroma_mode, before_pattern};
 
@@ -14,7 +16,7 @@ use binarisation::{
 };
 use cabac_contexts::ctx_inc_chroma_mode;
 use cabac_engine::{BinSink, BinSource};
-use h264_types::{Mb, SliceShape, mode_count};
+use h264_types::{Mb, Rows, SliceShape, mode_count};
 use std::alloc::AllocError as Memory;
 
 /// The mode that stands for a prev_intra4x4_pred_mode_flag or prev_intra8x8_pred_mode_flag of 1.
@@ -83,14 +85,13 @@ fn write_modes<S: BinSink>(s: &mut S, mb: &Mb) -> Result<(), Memory>
 fn read_chroma<S: BinSource>(
     s: &mut S,
     shape: &SliceShape,
-    done: &[Mb],
+    done: &Rows<Mb>,
     at: u32,
     mb: &mut Mb,
 ) -> Option<()>
     requires going { S.over s.old ≡ false }
     requires picture { IsInPicture shape.now at }
-    requires done { at ≤ length done.now }
-    ensures reads { Reads S.step (intra.chroma_mode shape.now done.now at mb.old) (option_map (λ _. mb.new) result) s.old s.new }
+    ensures reads { (mbs : List Mb) → StandsAt (λ mb. mb) shape.now done.now mbs at → Reads S.step (intra.chroma_mode shape.now mbs at mb.old) (option_map (λ _. mb.new) result) s.old s.new }
     ensures going { OnSome result (S.over s.new ≡ false) }
     ensures others { mb.new ≡ record mb.old { chroma_mode = mb.new.chroma_mode } }
 {
@@ -102,15 +103,14 @@ fn read_chroma<S: BinSource>(
 fn write_chroma<S: BinSink>(
     s: &mut S,
     shape: &SliceShape,
-    done: &[Mb],
+    done: &Rows<Mb>,
     at: u32,
     mb: &Mb,
 ) -> Result<(), Memory>
     requires going { S.over s.old ≡ false }
     requires picture { IsInPicture shape.now at }
-    requires done { at ≤ length done.now }
     requires mode { mb.now.chroma_mode ≤ 3 }
-    ensures writes { OnOk result (Writes S.step (intra.chroma_mode shape.now done.now at (before_chroma_mode mb.now)) (before_pattern mb.now) s.old s.new) }
+    ensures writes { (mbs : List Mb) → StandsAt (λ mb. mb) shape.now done.now mbs at → OnOk result (Writes S.step (intra.chroma_mode shape.now mbs at (before_chroma_mode mb.now)) (before_pattern mb.now) s.old s.new) }
     ensures going { OnOk result (S.over s.new ≡ false) }
     ensures err { OnErr result (S.over s.new ≡ true) }
 {
@@ -123,14 +123,13 @@ fn write_chroma<S: BinSink>(
 pub fn read_prediction<S: BinSource>(
     s: &mut S,
     shape: &SliceShape,
-    done: &[Mb],
+    done: &Rows<Mb>,
     at: u32,
     mb: &mut Mb,
 ) -> Option<()>
     requires going { S.over s.old ≡ false }
     requires picture { IsInPicture shape.now at }
-    requires done { at ≤ length done.now }
-    ensures reads { Reads S.step (intra.intra_prediction shape.now done.now at mb.old) (option_map (λ _. mb.new) result) s.old s.new }
+    ensures reads { (mbs : List Mb) → StandsAt (λ mb. mb) shape.now done.now mbs at → Reads S.step (intra.intra_prediction shape.now mbs at mb.old) (option_map (λ _. mb.new) result) s.old s.new }
     ensures going { OnSome result (S.over s.new ≡ false) }
     ensures others { IfSome result (λ _. mb.new ≡ record mb.old { t8 = mb.new.t8; modes = mb.new.modes; chroma_mode = mb.new.chroma_mode }) }
 {
@@ -143,17 +142,16 @@ pub fn read_prediction<S: BinSource>(
 pub fn write_prediction<S: BinSink>(
     s: &mut S,
     shape: &SliceShape,
-    done: &[Mb],
+    done: &Rows<Mb>,
     at: u32,
     mb: &Mb,
 ) -> Result<(), Memory>
     requires going { S.over s.old ≡ false }
     requires picture { IsInPicture shape.now at }
-    requires done { at ≤ length done.now }
     requires sizes { HasSizes mb.now }
     requires t8 { mb.now.t8 ≡ true → sends_t8_first shape.now mb.now.kind ≡ true }
     requires predicted { IsIntraPredicted mb.now }
-    ensures writes { OnOk result (Writes S.step (intra.intra_prediction shape.now done.now at (before_t8 mb.now)) (before_pattern mb.now) s.old s.new) }
+    ensures writes { (mbs : List Mb) → StandsAt (λ mb. mb) shape.now done.now mbs at → OnOk result (Writes S.step (intra.intra_prediction shape.now mbs at (before_t8 mb.now)) (before_pattern mb.now) s.old s.new) }
     ensures going { OnOk result (S.over s.new ≡ false) }
     ensures err { OnErr result (S.over s.new ≡ true) }
 {

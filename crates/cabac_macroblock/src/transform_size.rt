@@ -1,29 +1,30 @@
 //! transform_size_8x8_flag (ITU-T H.264, 7.3.5).
-ghost use Rattle.std.specs.Prelude.{◌≡◌, ◌≤◌, length, option_map, false, true, OnOk, OnSome, OnErr};
+ghost use Rattle.std.specs.Prelude.{◌≡◌, option_map, false, true, OnOk, OnSome, OnErr, List};
 ghost use Rattle.binarisation.specs.BinString.{Reads, Writes};
 ghost use Rattle.h264_types.specs.Sent.{sends_t8_first};
 ghost use Rattle.h264_types.specs.Slice.{IsInPicture};
+ghost use Rattle.h264_types.specs.LastRows.{StandsAt};
+ghost use Rattle.h264_types.specs.declared.macroblock.Mb.{Mb};
 ghost use Rattle.cabac_macroblock.specs.IntraPrediction as intra;
 ghost use Rattle.cabac_macroblock.specs.Stages.{before_t8, before_modes};
 
 use binarisation::{read_t8, write_t8};
 use cabac_contexts::ctx_inc_t8;
 use cabac_engine::{BinSink, BinSource};
-use h264_types::{Mb, SliceShape};
+use h264_types::{Mb, Rows, SliceShape};
 use std::alloc::AllocError as Memory;
 
 /// Reads transform_size_8x8_flag of a macroblock whose type stands.
 pub fn read_transform_size<S: BinSource>(
     s: &mut S,
     shape: &SliceShape,
-    done: &[Mb],
+    done: &Rows<Mb>,
     at: u32,
     mb: &mut Mb,
 ) -> Option<()>
     requires going { S.over s.old ≡ false }
     requires picture { IsInPicture shape.now at }
-    requires done { at ≤ length done.now }
-    ensures reads { Reads S.step (intra.transform_size shape.now done.now at mb.old) (option_map (λ _. mb.new) result) s.old s.new }
+    ensures reads { (mbs : List Mb) → StandsAt (λ mb. mb) shape.now done.now mbs at → Reads S.step (intra.transform_size shape.now mbs at mb.old) (option_map (λ _. mb.new) result) s.old s.new }
     ensures going { OnSome result (S.over s.new ≡ false) }
     ensures others { mb.new ≡ record mb.old { t8 = mb.new.t8 } }
 {
@@ -37,15 +38,14 @@ pub fn read_transform_size<S: BinSource>(
 pub fn write_transform_size<S: BinSink>(
     s: &mut S,
     shape: &SliceShape,
-    done: &[Mb],
+    done: &Rows<Mb>,
     at: u32,
     mb: &Mb,
 ) -> Result<(), Memory>
     requires going { S.over s.old ≡ false }
     requires picture { IsInPicture shape.now at }
-    requires done { at ≤ length done.now }
     requires sent { mb.now.t8 ≡ true → sends_t8_first shape.now mb.now.kind ≡ true }
-    ensures writes { OnOk result (Writes S.step (intra.transform_size shape.now done.now at (before_t8 mb.now)) (before_modes mb.now) s.old s.new) }
+    ensures writes { (mbs : List Mb) → StandsAt (λ mb. mb) shape.now done.now mbs at → OnOk result (Writes S.step (intra.transform_size shape.now mbs at (before_t8 mb.now)) (before_modes mb.now) s.old s.new) }
     ensures going { OnOk result (S.over s.new ≡ false) }
     ensures err { OnErr result (S.over s.new ≡ true) }
 {

@@ -8,27 +8,24 @@ use Rattle.cabac_macroblock.proofs.CodingSteps.{coding_sent, coding_unsent}
 use Rattle.cabac_macroblock.proofs.coding.read_coding.Goals as goal
 
 pub returns-in_err-read_delta-clause-reads : goal.returns-in_err-read_delta-clause-reads
-returns-in_err-read_delta-clause-reads g c =
+returns-in_err-read_delta-clause-reads g c mbs stands =
     let shape = c.args.shape.now in
-    let done = c.args.done.now in
     let sent = sym c.sends_qp_delta.ensures ∙ c.if-sends_qp_delta.true in
     unread _ _ _ _ _ (ap (option_map _) c.from_residual.ensures)
-    (rw (coding_sent shape done c.args.at c.args.mb.now sent) (reads_none g.S.BinSource.step (qp_delta done c.args.at c.args.mb.now) (residual shape done c.args.at) _ _ c.in_err-read_delta.ensures.reads))
+    (rw (coding_sent shape mbs c.args.at c.args.mb.now sent) (reads_none g.S.BinSource.step (qp_delta mbs c.args.at c.args.mb.now) (residual shape mbs c.args.at) _ _ (c.in_err-read_delta.ensures.reads mbs stands)))
 
 pub returns-in_err-read_residual-clause-reads : goal.returns-in_err-read_residual-clause-reads
-returns-in_err-read_residual-clause-reads g c =
+returns-in_err-read_residual-clause-reads g c mbs stands =
     let shape = c.args.shape.now in
-    let done = c.args.done.now in
     let sent = sym c.sends_qp_delta.ensures ∙ c.if-sends_qp_delta.true in
     unread _ _ _ _ _ (ap (option_map _) c.from_residual-in_err-read_residual.ensures)
-    (rw (coding_sent shape done c.args.at c.args.mb.now sent) (reads_then g.S.BinSource.step (qp_delta done c.args.at c.args.mb.now) (residual shape done c.args.at) c.read_delta.new.mb _ _ _ _ c.in_ok-read_delta.ensures.reads c.in_err-read_residual.ensures.reads))
+    (rw (coding_sent shape mbs c.args.at c.args.mb.now sent) (reads_then g.S.BinSource.step (qp_delta mbs c.args.at c.args.mb.now) (residual shape mbs c.args.at) c.read_delta.new.mb _ _ _ _ (c.in_ok-read_delta.ensures.reads mbs stands) (c.in_err-read_residual.ensures.reads mbs stands)))
 
 pub returns-in_ok-read_residual-clause-reads : goal.returns-in_ok-read_residual-clause-reads
-returns-in_ok-read_residual-clause-reads g c =
+returns-in_ok-read_residual-clause-reads g c mbs stands =
     let shape = c.args.shape.now in
-    let done = c.args.done.now in
     let sent = sym c.sends_qp_delta.ensures ∙ c.if-sends_qp_delta.true in
-    rw (coding_sent shape done c.args.at c.args.mb.now sent) (reads_then g.S.BinSource.step (qp_delta done c.args.at c.args.mb.now) (residual shape done c.args.at) c.read_delta.new.mb _ _ _ _ c.in_ok-read_delta.ensures.reads c.in_ok-read_residual.ensures.reads)
+    rw (coding_sent shape mbs c.args.at c.args.mb.now sent) (reads_then g.S.BinSource.step (qp_delta mbs c.args.at c.args.mb.now) (residual shape mbs c.args.at) c.read_delta.new.mb _ _ _ _ (c.in_ok-read_delta.ensures.reads mbs stands) (c.in_ok-read_residual.ensures.reads mbs stands))
 
 pub returns-else-sends_qp_delta-clause-reads : goal.returns-else-sends_qp_delta-clause-reads
-returns-else-sends_qp_delta-clause-reads g c = rw (coding_unsent c.args.shape.now c.args.done.now c.args.at c.args.mb.now (sym c.sends_qp_delta.ensures ∙ c.if-sends_qp_delta.false)) (refl, refl)
+returns-else-sends_qp_delta-clause-reads g c mbs stands = rw (coding_unsent c.args.shape.now mbs c.args.at c.args.mb.now (sym c.sends_qp_delta.ensures ∙ c.if-sends_qp_delta.false)) (refl, refl)

@@ -10,34 +10,31 @@ use Rattle.cabac_macroblock.proofs.CodingSteps.{elements_sent, elements_unsent}
 use Rattle.cabac_macroblock.proofs.macroblock.read_elements.Goals as goal
 
 pub returns-then-is_i_pcm-clause-reads : goal.returns-then-is_i_pcm-clause-reads
-returns-then-is_i_pcm-clause-reads g c = rw (elements_unsent c.args.shape.now c.args.done.now c.args.at c.args.mb.now (sym c.is_i_pcm.ensures ∙ c.if-is_i_pcm.true)) (refl, refl)
+returns-then-is_i_pcm-clause-reads g c mbs stands = rw (elements_unsent c.args.shape.now mbs c.args.at c.args.mb.now (sym c.is_i_pcm.ensures ∙ c.if-is_i_pcm.true)) (refl, refl)
 
 pub returns-in_err-read_prediction-clause-reads : goal.returns-in_err-read_prediction-clause-reads
-returns-in_err-read_prediction-clause-reads g c =
+returns-in_err-read_prediction-clause-reads g c mbs stands =
     let shape = c.args.shape.now in
-    let done = c.args.done.now in
     let step = g.S.BinSource.step in
     unread _ _ _ _ _ (ap (option_map _) c.from_residual.ensures)
-    (rw (elements_sent shape done c.args.at c.args.mb.now (sym c.is_i_pcm.ensures ∙ c.if-is_i_pcm.false))
-    (reads_none step (intra_prediction shape done c.args.at c.args.mb.now >>= pattern shape done c.args.at) (coding shape done c.args.at) _ _
-    (reads_none step (intra_prediction shape done c.args.at c.args.mb.now) (pattern shape done c.args.at) _ _ c.in_err-read_prediction.ensures.reads)))
+    (rw (elements_sent shape mbs c.args.at c.args.mb.now (sym c.is_i_pcm.ensures ∙ c.if-is_i_pcm.false))
+    (reads_none step (intra_prediction shape mbs c.args.at c.args.mb.now >>= pattern shape mbs c.args.at) (coding shape mbs c.args.at) _ _
+    (reads_none step (intra_prediction shape mbs c.args.at c.args.mb.now) (pattern shape mbs c.args.at) _ _ (c.in_err-read_prediction.ensures.reads mbs stands))))
 
 pub returns-in_err-read_pattern-clause-reads : goal.returns-in_err-read_pattern-clause-reads
-returns-in_err-read_pattern-clause-reads g c =
+returns-in_err-read_pattern-clause-reads g c mbs stands =
     let shape = c.args.shape.now in
-    let done = c.args.done.now in
     let step = g.S.BinSource.step in
     unread _ _ _ _ _ (ap (option_map _) c.from_residual-in_err-read_pattern.ensures)
-    (rw (elements_sent shape done c.args.at c.args.mb.now (sym c.is_i_pcm.ensures ∙ c.if-is_i_pcm.false))
-    (reads_none step (intra_prediction shape done c.args.at c.args.mb.now >>= pattern shape done c.args.at) (coding shape done c.args.at) _ _
-    (reads_then step (intra_prediction shape done c.args.at c.args.mb.now) (pattern shape done c.args.at) c.read_prediction.new.mb _ _ _ _ c.in_ok-read_prediction.ensures.reads c.in_err-read_pattern.ensures.reads)))
+    (rw (elements_sent shape mbs c.args.at c.args.mb.now (sym c.is_i_pcm.ensures ∙ c.if-is_i_pcm.false))
+    (reads_none step (intra_prediction shape mbs c.args.at c.args.mb.now >>= pattern shape mbs c.args.at) (coding shape mbs c.args.at) _ _
+    (reads_then step (intra_prediction shape mbs c.args.at c.args.mb.now) (pattern shape mbs c.args.at) c.read_prediction.new.mb _ _ _ _ (c.in_ok-read_prediction.ensures.reads mbs stands) (c.in_err-read_pattern.ensures.reads mbs stands))))
 
 pub returns-clause-reads : goal.returns-clause-reads
-returns-clause-reads g c =
+returns-clause-reads g c mbs stands =
     let shape = c.args.shape.now in
-    let done = c.args.done.now in
     let step = g.S.BinSource.step in
-    rw (elements_sent shape done c.args.at c.args.mb.now (sym c.is_i_pcm.ensures ∙ c.if-is_i_pcm.false))
-    (reads_then step (intra_prediction shape done c.args.at c.args.mb.now >>= pattern shape done c.args.at) (coding shape done c.args.at) c.read_pattern.new.mb _ _ _ _
-    (reads_then step (intra_prediction shape done c.args.at c.args.mb.now) (pattern shape done c.args.at) c.read_prediction.new.mb _ _ _ _ c.in_ok-read_prediction.ensures.reads c.in_ok-read_pattern.ensures.reads)
-    c.read_coding.ensures.reads)
+    rw (elements_sent shape mbs c.args.at c.args.mb.now (sym c.is_i_pcm.ensures ∙ c.if-is_i_pcm.false))
+    (reads_then step (intra_prediction shape mbs c.args.at c.args.mb.now >>= pattern shape mbs c.args.at) (coding shape mbs c.args.at) c.read_pattern.new.mb _ _ _ _
+    (reads_then step (intra_prediction shape mbs c.args.at c.args.mb.now) (pattern shape mbs c.args.at) c.read_prediction.new.mb _ _ _ _ (c.in_ok-read_prediction.ensures.reads mbs stands) (c.in_ok-read_pattern.ensures.reads mbs stands))
+    (c.read_coding.ensures.reads mbs stands))

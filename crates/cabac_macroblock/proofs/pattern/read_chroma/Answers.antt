@@ -5,10 +5,10 @@ use Rattle.cabac_macroblock.proofs.PatternSteps.{reads_chroma, reads_no_chroma}
 use Rattle.cabac_macroblock.proofs.pattern.read_chroma.Goals as goal
 
 pub returns-in_err-mb-clause-reads : goal.returns-in_err-mb-clause-reads
-returns-in_err-mb-clause-reads g c =
+returns-in_err-mb-clause-reads g c mbs stands =
     unread _ _ _ _ _ (ap (option_map _) c.from_residual.ensures)
-    (reads_no_chroma g.S.BinSource.step c.args.shape.now c.args.done.now c.args.at c.args.mb.now _ _ _ _ c.ctx_inc_chroma-first.ensures.value c.ctx_inc_chroma-second.ensures.value c.in_err-mb.ensures.reads)
+    (reads_no_chroma g.S.BinSource.step c.args.shape.now mbs c.args.at c.args.mb.now _ _ _ _ (c.ctx_inc_chroma-first.ensures.value mbs stands) (c.ctx_inc_chroma-second.ensures.value mbs stands) c.in_err-mb.ensures.reads)
 
 pub returns-clause-reads : goal.returns-clause-reads
-returns-clause-reads g c =
-    reads_chroma g.S.BinSource.step c.args.shape.now c.args.done.now c.args.at c.args.mb.now _ _ _ _ _ _ c.ctx_inc_chroma-first.ensures.value c.ctx_inc_chroma-second.ensures.value refl c.in_ok-mb.ensures.reads
+returns-clause-reads g c mbs stands =
+    reads_chroma g.S.BinSource.step c.args.shape.now mbs c.args.at c.args.mb.now _ _ _ _ _ _ (c.ctx_inc_chroma-first.ensures.value mbs stands) (c.ctx_inc_chroma-second.ensures.value mbs stands) refl c.in_ok-mb.ensures.reads

@@ -6,17 +6,16 @@ use Rattle.cabac_macroblock.proofs.PatternSteps.{pattern_sent, pattern_unsent, n
 use Rattle.cabac_macroblock.proofs.pattern.write_pattern.Goals as goal
 
 pub returns-then-not-sends_pattern-clause-writes : goal.returns-then-not-sends_pattern-clause-writes
-returns-then-not-sends_pattern-clause-writes g c =
+returns-then-not-sends_pattern-clause-writes g c mbs stands =
     let mb = c.args.mb.now in
     let unsent = sym c.sends_pattern.ensures ∙ c.if-not-sends_pattern.true in
-    rw (pattern_unsent c.args.shape.now c.args.done.now c.args.at (before_pattern mb) unsent) (no_pattern mb unsent c.requires.pattern, refl)
+    rw (pattern_unsent c.args.shape.now mbs c.args.at (before_pattern mb) unsent) (no_pattern mb unsent c.requires.pattern, refl)
 
 pub returns-clause-writes : goal.returns-clause-writes
-returns-clause-writes g c =
+returns-clause-writes g c mbs stands =
     let shape = c.args.shape.now in
-    let done = c.args.done.now in
     let mb = c.args.mb.now in
     let sent = sym c.sends_pattern.ensures ∙ c.if-not-sends_pattern.false in
     on_ok c.write_chroma.result
-    (λ written. rw (pattern_sent shape done c.args.at (before_pattern mb) sent) (writes_then g.S.BinSink.step (luma_bits shape done c.args.at (before_pattern mb)) (chroma_pattern shape done c.args.at) (before_chroma_pattern mb) (before_qp_delta mb) _ _ _
-    c.in_ok-write_luma.ensures.writes written)) c.write_chroma.ensures.writes
+    (λ written. rw (pattern_sent shape mbs c.args.at (before_pattern mb) sent) (writes_then g.S.BinSink.step (luma_bits shape mbs c.args.at (before_pattern mb)) (chroma_pattern shape mbs c.args.at) (before_chroma_pattern mb) (before_qp_delta mb) _ _ _
+    (c.in_ok-write_luma.ensures.writes mbs stands) written)) (c.write_chroma.ensures.writes mbs stands)

@@ -10,12 +10,11 @@ write_chroma-requires-clause-mode g c = chroma_mode_range c.args.mb.now c.requir
 
 pub returns-clause-writes : goal.returns-clause-writes
 unfolding intra_prediction
-returns-clause-writes g c =
+returns-clause-writes g c mbs stands =
     let shape = c.args.shape.now in
-    let done = c.args.done.now in
     let mb = c.args.mb.now in
     let step = g.S.BinSink.step in
     on_ok c.write_chroma.result
-    (λ written. writes_then step (transform_size shape done c.args.at (before_t8 mb) >>= modes) (chroma_mode shape done c.args.at) (before_chroma_mode mb) (before_pattern mb) _ _ _
-    (writes_then step (transform_size shape done c.args.at (before_t8 mb)) modes (before_modes mb) (before_chroma_mode mb) _ _ _ c.in_ok-write_transform_size.ensures.writes c.in_ok-write_modes.ensures.writes)
-    written) c.write_chroma.ensures.writes
+    (λ written. writes_then step (transform_size shape mbs c.args.at (before_t8 mb) >>= modes) (chroma_mode shape mbs c.args.at) (before_chroma_mode mb) (before_pattern mb) _ _ _
+    (writes_then step (transform_size shape mbs c.args.at (before_t8 mb)) modes (before_modes mb) (before_chroma_mode mb) _ _ _ (c.in_ok-write_transform_size.ensures.writes mbs stands) c.in_ok-write_modes.ensures.writes)
+    written) (c.write_chroma.ensures.writes mbs stands)

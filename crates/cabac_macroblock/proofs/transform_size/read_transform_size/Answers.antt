@@ -5,13 +5,13 @@ use Rattle.cabac_macroblock.proofs.PredictionSteps.{reads_t8, reads_t8_none, rea
 use Rattle.cabac_macroblock.proofs.transform_size.read_transform_size.Goals as goal
 
 pub returns-in_err-mb-clause-reads : goal.returns-in_err-mb-clause-reads
-returns-in_err-mb-clause-reads g c =
+returns-in_err-mb-clause-reads g c mbs stands =
     unread _ _ _ _ _ (ap (option_map _) c.from_residual.ensures)
-    (reads_t8_none g.S.BinSource.step c.args.shape.now c.args.done.now c.args.at c.args.mb.now _ _ _ (sym c.sends_t8_first.ensures ∙ c.if-sends_t8_first.true) c.ctx_inc_t8.ensures.value c.in_err-mb.ensures.reads)
+    (reads_t8_none g.S.BinSource.step c.args.shape.now mbs c.args.at c.args.mb.now _ _ _ (sym c.sends_t8_first.ensures ∙ c.if-sends_t8_first.true) (c.ctx_inc_t8.ensures.value mbs stands) c.in_err-mb.ensures.reads)
 
 pub returns-in_ok-mb-clause-reads : goal.returns-in_ok-mb-clause-reads
-returns-in_ok-mb-clause-reads g c =
-    reads_t8 g.S.BinSource.step c.args.shape.now c.args.done.now c.args.at c.args.mb.now _ _ _ _ _ (sym c.sends_t8_first.ensures ∙ c.if-sends_t8_first.true) c.ctx_inc_t8.ensures.value refl c.in_ok-mb.ensures.reads
+returns-in_ok-mb-clause-reads g c mbs stands =
+    reads_t8 g.S.BinSource.step c.args.shape.now mbs c.args.at c.args.mb.now _ _ _ _ _ (sym c.sends_t8_first.ensures ∙ c.if-sends_t8_first.true) (c.ctx_inc_t8.ensures.value mbs stands) refl c.in_ok-mb.ensures.reads
 
 pub returns-else-sends_t8_first-clause-reads : goal.returns-else-sends_t8_first-clause-reads
-returns-else-sends_t8_first-clause-reads g c = reads_t8_unsent g.S.BinSource.step c.args.shape.now c.args.done.now c.args.at c.args.mb.now _ (sym c.sends_t8_first.ensures ∙ c.if-sends_t8_first.false)
+returns-else-sends_t8_first-clause-reads g c mbs stands = reads_t8_unsent g.S.BinSource.step c.args.shape.now mbs c.args.at c.args.mb.now _ (sym c.sends_t8_first.ensures ∙ c.if-sends_t8_first.false)

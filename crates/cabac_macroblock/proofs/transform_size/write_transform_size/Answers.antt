@@ -4,8 +4,8 @@ use Rattle.cabac_macroblock.proofs.PredictionSteps.{writes_t8, writes_t8_unsent}
 use Rattle.cabac_macroblock.proofs.transform_size.write_transform_size.Goals as goal
 
 pub returns-then-sends_t8_first-clause-writes : goal.returns-then-sends_t8_first-clause-writes
-returns-then-sends_t8_first-clause-writes g c = on_ok c.write_t8.result
-    (λ written. writes_t8 g.S.BinSink.step c.args.shape.now c.args.done.now c.args.at c.args.mb.now _ _ _ c.requires.picture (sym c.sends_t8_first.ensures ∙ c.if-sends_t8_first.true) c.ctx_inc_t8.ensures.value written) c.write_t8.ensures.writes
+returns-then-sends_t8_first-clause-writes g c mbs stands = on_ok c.write_t8.result
+    (λ written. writes_t8 g.S.BinSink.step c.args.shape.now mbs c.args.at c.args.mb.now _ _ _ c.requires.picture (sym c.sends_t8_first.ensures ∙ c.if-sends_t8_first.true) (c.ctx_inc_t8.ensures.value mbs stands) written) c.write_t8.ensures.writes
 
 pub returns-clause-writes : goal.returns-clause-writes
-returns-clause-writes g c = writes_t8_unsent g.S.BinSink.step c.args.shape.now c.args.done.now c.args.at c.args.mb.now _ (sym c.sends_t8_first.ensures ∙ c.if-sends_t8_first.false) c.requires.sent
+returns-clause-writes g c mbs stands = writes_t8_unsent g.S.BinSink.step c.args.shape.now mbs c.args.at c.args.mb.now _ (sym c.sends_t8_first.ensures ∙ c.if-sends_t8_first.false) c.requires.sent
