@@ -15,6 +15,8 @@ mod pairs;
 #[cfg(test)]
 mod residuals;
 #[cfg(test)]
+mod rows;
+#[cfg(test)]
 mod slices;
 #[cfg(test)]
 mod spots;

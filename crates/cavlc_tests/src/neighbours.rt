@@ -1,6 +1,7 @@
 //! The neighbours of macroblocks and blocks outside MBAFF (6.4.9, 6.4.11).
-use crate::spots::{is_place, is_spot, shape};
+use crate::spots::{is_place, is_spot, rows_of, shape, skipped};
 use mb_neighbours::{At, above, left};
+use std::test::Fail;
 
 /// In rows of three, from the second macroblock of a row on: 0 1, 2 3 4, 5 6. Those to the left and above.
 static BESIDE: [(u32, Option<u32>, Option<u32>); 7] = [
@@ -22,18 +23,21 @@ static PLACES: [(At, u8, u8); 4] = [
 ];
 
 #[test]
-fn a_slice_from_the_middle_of_a_row_on(rt: HostRuntime) {
+fn a_slice_from_the_middle_of_a_row_on(rt: HostRuntime) -> Result<(), Fail> {
     let shape = shape(3, 4, false);
+    let mbs = [skipped(false); 7];
     for (at, mb_left, mb_above) in &BESIDE {
-        assert!(rt; *at < 7);
+        assert!(rt; *at < 7 && shape.is_shape());
+        let done = rows_of(rt.alloc(), &shape, &mbs[..*at as usize])?;
         for (place, block_left, block_above) in &PLACES {
             assert!(rt; is_place(*place));
-            let found = left(&shape, &[], *at, false, *place);
+            let found = left(&shape, &done, *at, false, *place);
             assert!(rt; is_spot(found, *mb_left, *block_left));
-            let found = above(&shape, &[], *at, false, *place);
+            let found = above(&shape, &done, *at, false, *place);
             assert!(rt; is_spot(found, *mb_above, *block_above));
         }
     }
+    Ok(())
 }
 
 /// The blocks to the left and above of those of macroblock 4, by number; those beside the first column are of macroblock 3,
@@ -66,13 +70,16 @@ static BLOCKS: [(At, u32, u8, u32, u8); 24] = [
 ];
 
 #[test]
-fn blocks_of_a_macroblock(rt: HostRuntime) {
+fn blocks_of_a_macroblock(rt: HostRuntime) -> Result<(), Fail> {
     let shape = shape(3, 0, false);
+    assert!(rt; shape.is_shape());
+    let done = rows_of(rt.alloc(), &shape, &[skipped(false); 4])?;
     for (place, mb_left, block_left, mb_above, block_above) in &BLOCKS {
         assert!(rt; is_place(*place));
-        let found = left(&shape, &[], 4, false, *place);
+        let found = left(&shape, &done, 4, false, *place);
         assert!(rt; is_spot(found, Some(*mb_left), *block_left));
-        let found = above(&shape, &[], 4, false, *place);
+        let found = above(&shape, &done, 4, false, *place);
         assert!(rt; is_spot(found, Some(*mb_above), *block_above));
     }
+    Ok(())
 }

@@ -1,7 +1,8 @@
 //! The neighbours in MBAFF by Table 6-4, and the pair flags that are inferred (7.4.4).
-use crate::spots::{is_place, is_spot, shape, skipped};
+use crate::spots::{is_place, is_spot, rows_of, shape, skipped};
 use h264_types::slice_order::inferred_field;
 use mb_neighbours::{At, above, left};
+use std::test::Fail;
 
 /// The second and the third pair of a row, after frame or field pairs: the flag of the current pair, those of the first and of
 /// the second, the macroblock and its place, and what is to the left of it. The last rows are of a frame pair after a skipped
@@ -26,15 +27,18 @@ static LEFT: [(bool, bool, bool, u32, At, u32, u8); 16] = [
 ];
 
 #[test]
-fn blocks_beside_the_left_pair(rt: HostRuntime) {
+fn blocks_beside_the_left_pair(rt: HostRuntime) -> Result<(), Fail> {
     let shape = shape(3, 0, true);
+    assert!(rt; shape.is_shape());
     for (field, first, second, at, place, mb, block) in &LEFT {
         assert!(rt; *at < 6 && is_place(*place));
         let (first_mb, second_mb) = (skipped(*first), skipped(*second));
-        let done = [first_mb, first_mb, second_mb, second_mb];
+        let mbs = [first_mb, first_mb, second_mb, second_mb];
+        let done = rows_of(rt.alloc(), &shape, &mbs)?;
         let found = left(&shape, &done, *at, *field, *place);
         assert!(rt; is_spot(found, Some(*mb), *block));
     }
+    Ok(())
 }
 
 /// The pair below a frame or a field pair: its flag, that of the pair above, its macroblock 2 or 3, and the one above that.
@@ -58,16 +62,19 @@ static BLOCKS_ABOVE: [(At, u8); 4] = [
 ];
 
 #[test]
-fn blocks_below_the_pair_above(rt: HostRuntime) {
+fn blocks_below_the_pair_above(rt: HostRuntime) -> Result<(), Fail> {
     let shape = shape(1, 0, true);
+    assert!(rt; shape.is_shape());
     for (field, above_field, at, mb) in &ABOVE {
         assert!(rt; *at < 4);
+        let done = rows_of(rt.alloc(), &shape, &[skipped(*above_field); 2])?;
         for (place, block) in &BLOCKS_ABOVE {
             assert!(rt; is_place(*place));
-            let found = above(&shape, &[skipped(*above_field); 2], *at, *field, *place);
+            let found = above(&shape, &done, *at, *field, *place);
             assert!(rt; is_spot(found, Some(*mb), *block));
         }
     }
+    Ok(())
 }
 
 /// In rows of two pairs: the flags of the pairs before, the pair that is skipped, and its flag.

@@ -1,9 +1,11 @@
 //! What the tries of neighbours share.
-ghost use Rattle.std.specs.Prelude.{◌≡◌, ◌<◌, ◌↔◌, IsTrue};
+ghost use Rattle.std.specs.Prelude.{◌≡◌, ◌+◌, ◌*◌, ◌<◌, ◌≤◌, ◌↔◌, IsTrue, IfOk, length};
+ghost use Rattle.h264_types.specs.SliceShape.{IsSliceShape};
 ghost use Rattle.mb_neighbours.specs.Place.{IsPlace};
 
-use h264_types::{Mb, MbKind, SliceKind, SliceShape};
+use h264_types::{Mb, MbKind, Rows, SliceKind, SliceShape};
 use mb_neighbours::{At, Spot};
+use std::alloc::{AllocError as Memory, Global};
 
 pub fn shape(width: u32, first: u32, mbaff: bool) -> SliceShape
     ensures width { result.width ≡ width }
@@ -31,6 +33,19 @@ pub fn skipped(field: bool) -> Mb {
     let mut mb = Mb::without_elements(MbKind::Skip);
     mb.field = field;
     mb
+}
+
+/// The last two rows of the slice that begins with these macroblocks.
+pub fn rows_of(alloc: Global, shape: &SliceShape, mbs: &[Mb]) -> Result<Rows<Mb>, Memory>
+    requires shape { IsSliceShape shape.now }
+    requires picture { shape.now.first + length mbs.now ≤ shape.now.width * shape.now.height }
+    ensures { IfOk result (λ rows. rows.mbaff ≡ shape.now.mbaff) }
+{
+    let mut rows = Rows::start(alloc, shape)?;
+    for mb in mbs {
+        rows.push(mb);
+    }
+    Ok(rows)
 }
 
 /// What was found is a block of this macroblock, or nothing where there is none.
