@@ -25,11 +25,13 @@ use Rattle.h264_types.specs.declared.macroblock.MbKind.TheVariants as kinds
 use Rattle.h264_types.specs.declared.macroblock.MbKind.TheVariants.{Intra}
 use Rattle.h264_types.specs.declared.slice_shape.SliceShape.{SliceShape}
 use Rattle.cavlc_mb_residual.specs.declared.counts.Around.{Around}
-use Rattle.cavlc_macroblock.specs.Macroblock.{AreSamples, IsIPcm, i_pcm, alignment, pcm_text, behind_type, macroblock_text}
+use Rattle.cavlc_macroblock.specs.Macroblock.{IsIPcm, i_pcm, pcm_text, behind_type, macroblock_text}
 use Rattle.cavlc_macroblock.specs.MacroblockLayer.{IsLayer, layer_text}
 use Rattle.cavlc_macroblock.specs.MbType.{type_of, type_text, IsTypeIn}
-use Rattle.cavlc_macroblock.specs.Reading.{samples_at, alignment_at, pcm_at, IsSent, ReadsMacroblock}
-use Rattle.cavlc_macroblock.proofs.AlignmentLaws.{alignment_inverts}
+use Rattle.cavlc_macroblock.specs.Reading.{samples_at, pcm_at, IsSent, ReadsMacroblock}
+use Rattle.pcm_samples.specs.Alignment.{alignment, alignment_at}
+use Rattle.pcm_samples.specs.Samples.{AreSamples}
+use Rattle.pcm_samples.proofs.AlignmentLaws.{alignment_inverts}
 use Rattle.cavlc_macroblock.proofs.LayerChain.{IsPrefixFree-layer}
 use Rattle.cavlc_macroblock.proofs.TypeLaws.{IsPrefixFree-type}
 

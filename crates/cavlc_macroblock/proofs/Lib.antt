@@ -1,5 +1,3 @@
-pub mod AlignmentLaws
-pub mod SampleBytes
 pub mod ElementLaws
 pub mod ReadsLaws
 pub mod TypeLaws

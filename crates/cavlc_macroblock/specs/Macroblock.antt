@@ -1,5 +1,5 @@
 -- The text of a macroblock (ITU-T H.264, 7.3.5).
-use Rattle.std.specs.Prelude.{◌≡◌, ℕ, ◌+◌, ◌-◌, ◌%◌, ◌≤◌, if◌then◌else◌, Bool, false, List, ◌++◌, length, replicate, All}
+use Rattle.std.specs.Prelude.{◌≡◌, ℕ, ◌+◌, if◌then◌else◌, Bool, List, ◌++◌, length}
 use Rattle.bit_texts.specs.Bits.{bits_of}
 use Rattle.cavlc_mb_residual.specs.declared.counts.Around.{Around}
 use Rattle.h264_types.specs.Kind.{is_i_pcm}
@@ -7,6 +7,8 @@ use Rattle.h264_types.specs.Macroblock.{no_elements}
 use Rattle.h264_types.specs.declared.macroblock.Mb.{Mb}
 use Rattle.h264_types.specs.declared.macroblock.MbKind.TheVariants.{Intra}
 use Rattle.h264_types.specs.declared.slice_shape.SliceShape.{SliceShape}
+use Rattle.pcm_samples.specs.Alignment.{alignment}
+use Rattle.pcm_samples.specs.Samples.{AreSamples}
 use Rattle.cavlc_macroblock.specs.MacroblockLayer.{layer_text}
 use Rattle.cavlc_macroblock.specs.MbType.{type_text}
 
@@ -14,19 +16,10 @@ use Rattle.cavlc_macroblock.specs.MbType.{type_text}
 abbrev pub i_pcm : List ℕ → Mb
 i_pcm samples = record (no_elements (Intra 25)) { pcm = samples }
 
--- 256 luma samples, and 64 of Cb and of Cr
-pub record AreSamples (samples : List ℕ) : Type 0 where
-  pub count : length samples ≡ 384
-  pub bytes : All (λ sample. sample ≤ 255) samples
-
 -- the macroblock is I_PCM: it has samples, and no other element
 pub record IsIPcm (mb : Mb) : Type 0 where
   pub elements : mb ≡ i_pcm mb.pcm
   pub samples : AreSamples mb.pcm
-
--- pcm_alignment_zero_bit: zero bits up to the byte boundary
-abbrev pub alignment : ℕ → List Bool
-alignment pos = replicate ((8 - pos % 8) % 8) false
 
 -- pcm_sample_luma and pcm_sample_chroma, 8 bits each, behind the alignment
 abbrev pub pcm_text : ℕ → Mb → List Bool

@@ -1,26 +1,18 @@
 -- Reading a macroblock from the bits. These are inverse to the texts.
-use Rattle.std.specs.Prelude.{◌≡◌, ◌≢◌, ◌⊎◌, ℕ, zero, suc, ◌-◌, ◌%◌, if◌then◌else◌, Bool, true, false, List, ◌++◌, Option, Some, None}
+use Rattle.std.specs.Prelude.{◌≡◌, ◌≢◌, ◌⊎◌, ℕ, Bool, true, false, List, ◌++◌, Option, Some, None}
 use Rattle.bit_texts.specs.Cursor.{Cursor, Takes}
 use Rattle.bit_texts.specs.Readings.{◌>>=◌, many_at}
-use Rattle.exp_golomb.specs.Code.{Flag, U}
+use Rattle.exp_golomb.specs.Code.{U}
 use Rattle.exp_golomb.specs.Element.{element_at}
 use Rattle.h264_types.specs.Kind.{is_i_pcm, is_skip}
 use Rattle.h264_types.specs.Valid.{is_kind_in}
 use Rattle.h264_types.specs.declared.macroblock.Mb.{Mb}
 use Rattle.h264_types.specs.declared.macroblock.MbKind.TheVariants.{P}
 use Rattle.h264_types.specs.declared.slice_shape.SliceShape.{SliceShape}
+use Rattle.pcm_samples.specs.Alignment.{alignment_at}
 use Rattle.cavlc_mb_residual.specs.declared.counts.Around.{Around}
 use Rattle.cavlc_macroblock.specs.MacroblockLayer.{IsLayer}
 use Rattle.cavlc_macroblock.specs.Macroblock.{IsIPcm, i_pcm, macroblock_text}
-
--- that many zero bits
-unfoldable pub zeros_at : ℕ → Cursor → Option (Unit {0} × Cursor)
-zeros_at zero c = Some (tt, c)
-zeros_at (suc n) c = element_at Flag c >>= λ bit. if bit.0 then None else zeros_at n bit.1
-
--- zero bits up to the byte boundary
-unfoldable pub alignment_at : Cursor → Option (Unit {0} × Cursor)
-alignment_at c = zeros_at ((8 - c.taken % 8) % 8) c
 
 -- the samples, 8 bits each
 unfoldable pub samples_at : Cursor → Option (List ℕ × Cursor)

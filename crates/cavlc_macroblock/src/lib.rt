@@ -2,7 +2,6 @@
 //! coded_block_pattern, transform_size_8x8_flag, mb_qp_delta and the residual.
 #![tactic(auto)]
 
-mod alignment;
 mod coding;
 pub mod laws;
 mod layer;
@@ -10,8 +9,6 @@ mod macroblock;
 mod mb_type;
 mod pattern;
 mod prediction;
-mod samples;
 mod transform_size;
 
-pub use alignment::{read_alignment, write_alignment};
 pub use macroblock::{read_macroblock, write_macroblock};

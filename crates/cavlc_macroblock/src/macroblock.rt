@@ -7,13 +7,12 @@ ghost use Rattle.cavlc_mb_residual.specs.Counts.{IsAround};
 ghost use Rattle.cavlc_macroblock.specs.Macroblock.{pcm_text, macroblock_text};
 ghost use Rattle.cavlc_macroblock.specs.Reading.{pcm_at, IsSent, ReadsMacroblock};
 
-use crate::alignment::{read_alignment, write_alignment};
 use crate::layer::{read_layer, write_layer};
 use crate::mb_type::{read_type, write_type};
-use crate::samples::{read_samples, write_samples};
 use cavlc_mb_residual::Around;
 use exp_golomb::{BitSink, BitSource};
 use h264_types::{Mb, MbKind, SliceShape};
+use pcm_samples::{read_alignment, read_samples, write_alignment, write_samples};
 use std::alloc::AllocError as Memory;
 
 /// Reads an I_PCM macroblock behind its mb_type, into the one that is lent.

@@ -8,9 +8,8 @@ use Rattle.bit_texts.proofs.Inverting.{some_is, read_is, bind_some, Takes-then}
 use Rattle.exp_golomb.specs.Code.{Flag}
 use Rattle.exp_golomb.specs.Element.{element_at}
 use Rattle.exp_golomb.proofs.Fronts.{element-inverts}
-use Rattle.cavlc_macroblock.specs.Macroblock.{alignment}
-use Rattle.cavlc_macroblock.specs.Reading.{alignment_at}
-use Rattle.cavlc_macroblock.proofs.AlignmentLaws.{alignment_inverts, flag_takes}
+use Rattle.pcm_samples.specs.Alignment.{alignment, alignment_at}
+use Rattle.pcm_samples.proofs.AlignmentLaws.{alignment_inverts, flag_takes}
 use Rattle.cavlc_syntax.specs.SliceText.{stop_text}
 use Rattle.cavlc_syntax.specs.Reading.{stop_at}
 

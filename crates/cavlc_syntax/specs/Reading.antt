@@ -11,7 +11,8 @@ use Rattle.h264_types.specs.declared.macroblock.MbKind.TheVariants.{Skip}
 use Rattle.h264_types.specs.declared.slice_shape.SliceShape.{SliceShape}
 use Rattle.h264_types.specs.declared.slice_shape.SliceKind.{SliceKind}
 use Rattle.h264_types.specs.declared.slice_shape.SliceKind.TheVariants as slices
-use Rattle.cavlc_macroblock.specs.Reading.{IsSent, alignment_at}
+use Rattle.cavlc_macroblock.specs.Reading.{IsSent}
+use Rattle.pcm_samples.specs.Alignment.{alignment_at}
 use Rattle.cavlc_syntax.specs.SliceText.{prefix_bound}
 
 -- the stop bit, and zero bits up to the byte boundary

@@ -6,8 +6,8 @@ ghost use Rattle.bit_texts.specs.Texts.{Appends};
 ghost use Rattle.cavlc_syntax.specs.Reading.{stop_at};
 ghost use Rattle.cavlc_syntax.specs.SliceText.{stop_text};
 
-use cavlc_macroblock::{read_alignment, write_alignment};
 use exp_golomb::{BitSink, BitSource, read_flag};
+use pcm_samples::{read_alignment, write_alignment};
 use std::alloc::AllocError as Memory;
 
 /// Takes the stop bit and zero bits up to the byte boundary.

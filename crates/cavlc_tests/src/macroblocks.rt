@@ -1,10 +1,11 @@
 //! Macroblocks in CAVLC (7.3.5).
 ghost use Rattle.cavlc_mb_residual.specs.Counts.{IsAround};
 
-use cavlc_macroblock::{read_macroblock, write_alignment, write_macroblock};
+use cavlc_macroblock::{read_macroblock, write_macroblock};
 use cavlc_mb_residual::{Around, Sides};
 use exp_golomb::{BitSink, BitVec, SliceBits};
 use h264_types::{Mb, MbKind, Pattern, SliceKind, SliceShape};
+use pcm_samples::write_alignment;
 use std::alloc::Global;
 use std::test::Fail;
 

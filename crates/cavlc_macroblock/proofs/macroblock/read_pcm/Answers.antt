@@ -5,9 +5,10 @@ use Rattle.bit_texts.proofs.Inverting.{Gives-from_Reads, Keeps-from_kept}
 use Rattle.h264_types.specs.declared.macroblock.Mb.{Mb}
 use Rattle.h264_types.specs.declared.macroblock.MbKind.TheVariants.{Intra}
 use Rattle.h264_types.specs.Macroblock.{no_elements}
-use Rattle.cavlc_macroblock.specs.Macroblock.{AreSamples}
+use Rattle.pcm_samples.specs.Samples.{AreSamples}
 use Rattle.cavlc_macroblock.proofs.ReadsLaws.{place_in}
-use Rattle.cavlc_macroblock.specs.Reading.{alignment_at, samples_at, pcm_at}
+use Rattle.cavlc_macroblock.specs.Reading.{samples_at, pcm_at}
+use Rattle.pcm_samples.specs.Alignment.{alignment_at}
 use Rattle.cavlc_macroblock.proofs.Layers.{samples_inverts}
 use Rattle.cavlc_macroblock.proofs.macroblock.read_pcm.Goals as goal
 

@@ -5,8 +5,8 @@ use Rattle.std.specs.Int.{bytes_high_first}
 use Rattle.bit_texts.specs.Bits.{bits_of}
 use Rattle.std.proofs.lemmas.Slice.{take-put_mid}
 use Rattle.std.proofs.lemmas.List.Elements.{All-append, All-same}
-use Rattle.cavlc_macroblock.proofs.SampleBytes.{samples_cut, samples_next, window_bits, high_first-most}
-use Rattle.cavlc_macroblock.proofs.samples.read_samples.Goals as goal
+use Rattle.pcm_samples.proofs.SampleBytes.{samples_cut, samples_next, window_bits, high_first-most}
+use Rattle.pcm_samples.proofs.samples.read_samples.Goals as goal
 
 pub returns-then-not-skip-clause-reads : goal.returns-then-not-skip-clause-reads
 returns-then-not-skip-clause-reads g c v more are e =

@@ -10,7 +10,7 @@ use Rattle.bit_texts.specs.Bits.{number, binary, bits_of, first}
 use Rattle.bit_texts.proofs.Numbers.{binary-add, binary-high, binary-number}
 use Rattle.bit_texts.proofs.Bytes.{bits_of-cons, bits_of-append, length-bits_of}
 use Rattle.bit_texts.proofs.Windows.{length-first, first-take}
-use Rattle.cavlc_macroblock.specs.Macroblock.{AreSamples}
+use Rattle.pcm_samples.specs.Samples.{AreSamples}
 
 -- ---- the bytes of a number
 

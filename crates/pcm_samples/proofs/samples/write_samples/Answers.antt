@@ -1,7 +1,7 @@
 use Rattle.std.proofs.Common.{◌*◌, ◌+◌, arith}
 use Rattle.bit_texts.proofs.Writing.{Wrote-next, Wrote-stop, Appends-Err}
-use Rattle.cavlc_macroblock.proofs.SampleBytes.{samples_from}
-use Rattle.cavlc_macroblock.proofs.samples.write_samples.Goals as goal
+use Rattle.pcm_samples.proofs.SampleBytes.{samples_from}
+use Rattle.pcm_samples.proofs.samples.write_samples.Goals as goal
 
 pub loop-i-preserved : goal.loop-i-preserved
 loop-i-preserved g c =

@@ -1,6 +1,6 @@
 use Rattle.std.proofs.Common.{◌≡◌, ◌∙◌, ◌*◌, ◌+◌, ◌-◌, take, drop, ap, arith}
-use Rattle.cavlc_macroblock.proofs.SampleBytes.{eight_number}
-use Rattle.cavlc_macroblock.proofs.samples.eight_samples.Goals as goal
+use Rattle.pcm_samples.proofs.SampleBytes.{eight_number}
+use Rattle.pcm_samples.proofs.samples.eight_samples.Goals as goal
 
 pub returns : goal.returns
 returns c =

@@ -3,8 +3,8 @@ ghost use Rattle.std.specs.Prelude.{length};
 ghost use Rattle.bit_texts.specs.Cursor.{cursor};
 ghost use Rattle.bit_texts.specs.Readings.{Gives};
 ghost use Rattle.bit_texts.specs.Texts.{Appends};
-ghost use Rattle.cavlc_macroblock.specs.Macroblock.{alignment};
-ghost use Rattle.cavlc_macroblock.specs.Reading.{alignment_at};
+ghost use Rattle.pcm_samples.specs.Alignment.{alignment};
+ghost use Rattle.pcm_samples.specs.Alignment.{alignment_at};
 
 use exp_golomb::{BitSink, BitSource, read_flag};
 use std::alloc::AllocError as Memory;

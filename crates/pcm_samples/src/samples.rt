@@ -2,7 +2,7 @@
 ghost use Rattle.std.specs.Prelude.{◌≡◌, ◌+◌, ◌*◌, ◌<◌, ◌++◌, take, drop, option_map};
 ghost use Rattle.bit_texts.specs.Bits.{binary, bits_of};
 ghost use Rattle.bit_texts.specs.Texts.{Reads, Appends};
-ghost use Rattle.cavlc_macroblock.specs.Macroblock.{AreSamples};
+ghost use Rattle.pcm_samples.specs.Samples.{AreSamples};
 
 use exp_golomb::{BitSink, BitSource};
 use std::alloc::AllocError as Memory;

@@ -1,6 +1,6 @@
 use Rattle.bit_texts.proofs.Writing.{Wrote-next}
-use Rattle.cavlc_macroblock.proofs.AlignmentLaws.{not_aligned, alignment_more}
-use Rattle.cavlc_macroblock.proofs.alignment.write_alignment.Goals as goal
+use Rattle.pcm_samples.proofs.AlignmentLaws.{not_aligned, alignment_more}
+use Rattle.pcm_samples.proofs.alignment.write_alignment.Goals as goal
 
 pub loop-bits-preserved : goal.loop-bits-preserved
 loop-bits-preserved g c =

@@ -8,8 +8,8 @@ use Rattle.bit_texts.proofs.Inverting.{some_is, bind_some, Takes-then}
 use Rattle.exp_golomb.specs.Code.{Flag}
 use Rattle.exp_golomb.specs.Element.{element_at}
 use Rattle.exp_golomb.proofs.Fronts.{element-inverts}
-use Rattle.cavlc_macroblock.specs.Macroblock.{alignment}
-use Rattle.cavlc_macroblock.specs.Reading.{zeros_at, alignment_at}
+use Rattle.pcm_samples.specs.Alignment.{alignment}
+use Rattle.pcm_samples.specs.Alignment.{zeros_at, alignment_at}
 
 -- one bit before the boundary there is one bit less to it
 gap_more : (n : ℕ) → n % 8 ≢ 0 → (8 - n % 8) % 8 ≡ suc ((8 - (n + 1) % 8) % 8)

@@ -2,7 +2,7 @@
 use Rattle.std.proofs.Common.{◌≡◌, ◌*◌, ◌≤◌, ◌++◌, length, take}
 use Rattle.std.specs.Prelude.{All}
 use Rattle.bit_texts.specs.Bits.{bits_of}
-use Rattle.cavlc_macroblock.proofs.samples.read_samples.Given as goal
+use Rattle.pcm_samples.proofs.samples.read_samples.Given as goal
 
 abbrev pub invariant-loop-i : goal.invariant-loop-i
 invariant-loop-i g l = record {

@@ -1,8 +1,8 @@
 -- the alignment that is still to be put
 use Rattle.std.proofs.Common.{◌-◌, ◌%◌, length}
 use Rattle.bit_texts.specs.Texts.{Wrote}
-use Rattle.cavlc_macroblock.specs.Macroblock.{alignment}
-use Rattle.cavlc_macroblock.proofs.alignment.write_alignment.Given as goal
+use Rattle.pcm_samples.specs.Alignment.{alignment}
+use Rattle.pcm_samples.proofs.alignment.write_alignment.Given as goal
 
 abbrev pub invariant-loop-bits : goal.invariant-loop-bits
 invariant-loop-bits g l =

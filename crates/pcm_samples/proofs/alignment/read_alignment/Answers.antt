@@ -1,6 +1,6 @@
 use Rattle.std.proofs.Common.{◌∙◌, sym, refl}
-use Rattle.cavlc_macroblock.proofs.AlignmentLaws.{not_aligned, aligned_cut, aligned_by_one, aligned_later, aligned_here}
-use Rattle.cavlc_macroblock.proofs.alignment.read_alignment.Goals as goal
+use Rattle.pcm_samples.proofs.AlignmentLaws.{not_aligned, aligned_cut, aligned_by_one, aligned_later, aligned_here}
+use Rattle.pcm_samples.proofs.alignment.read_alignment.Goals as goal
 
 pub returns-in_err-read_flag : goal.returns-in_err-read_flag
 returns-in_err-read_flag g c =

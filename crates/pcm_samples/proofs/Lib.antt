@@ -1,0 +1,2 @@
+pub mod AlignmentLaws
+pub mod SampleBytes
