@@ -45,7 +45,8 @@ use Rattle.slice_rewrite.specs.declared.kinds.UnitKind.TheVariants.{Carried as I
 use Rattle.slice_rewrite.specs.Items.{header_of, kind_of, kind_of_type, Slice, Item, Carried, TheSps, ThePps, TheSlice, put, is_unbuilt, IsUnit, IsSliceOf, IsItem}
 use Rattle.slice_rewrite.specs.Stops.{least_stop, slice_stop}
 use Rattle.slice_rewrite.specs.View.{IsWritable}
-use Rattle.slice_rewrite.specs.Written.{sps_unit, pps_unit, written_mb, slice_in, slice_bits, slice_unit}
+use Rattle.slice_rewrite.specs.Written.{sps_unit, pps_unit, slice_in, slice_bits, slice_unit}
+use Rattle.slice_data.specs.WrittenForm.{written_mb}
 use Rattle.slice_rewrite.proofs.Normal.{slice_written}
 use Rattle.slice_rewrite.proofs.Slices.{fit, not_unbuilt, names-once}
 use Rattle.slice_rewrite.proofs.Stops.{all_go, goes_within, none_emptied}

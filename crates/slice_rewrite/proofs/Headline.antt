@@ -15,7 +15,8 @@ use Rattle.slice_header.specs.Shape.{shape_of}
 use Rattle.slice_rewrite.specs.declared.plan.Plan.{Plan}
 use Rattle.slice_rewrite.specs.Items.{Slice, Item, Carried, TheSps, ThePps, TheSlice, sets_behind, AreItems}
 use Rattle.slice_rewrite.specs.Verdict.{stop_of, number_stop, has_pps, Judges, Recodes}
-use Rattle.slice_rewrite.specs.Written.{with_start_code, units_for, pps_units, written_mb, slice_in, output}
+use Rattle.slice_rewrite.specs.Written.{with_start_code, units_for, pps_units, slice_in, output}
+use Rattle.slice_data.specs.WrittenForm.{written_mb}
 use Rattle.slice_rewrite.specs.View.{with_qp, SliceView, CarriedView, SpsView, TheSliceView, slice_view, view, Reads, IsWritable, CanBeWritten, AreInLayer, SaysTheSame}
 use Rattle.slice_rewrite.proofs.Judging.{no-fault}
 use Rattle.slice_rewrite.proofs.Normal.{written-written}

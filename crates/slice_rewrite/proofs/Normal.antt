@@ -22,21 +22,20 @@ use Rattle.h264_types.specs.Sent.{sends_pattern}
 use Rattle.h264_types.specs.Macroblock.{quarter_of, pattern_of}
 use Rattle.h264_types.specs.Slice.{left_number, above_number, field_at, skipped_at, pair_field, inferred_field}
 use Rattle.h264_types.specs.Valid.{is_ref0, luma_bound, IsListSent, IsMacroblock, IsPair, IsSlice, IsWithin}
-use Rattle.param_sets.specs.PpsCodes.{mode_flag_of}
 use Rattle.pattern_fix.specs.NormalPattern.{IsEmptied, normal, normal_luma}
 use Rattle.pattern_fix.proofs.NormalLaws.{normal-normal}
 use Rattle.pattern_fix.proofs.ValidLaws.{valid-normal}
 use Rattle.slice_rewrite.specs.Stops.{is_emptied}
-use Rattle.slice_rewrite.specs.Written.{written_mb}
+use Rattle.slice_data.specs.WrittenForm.{has_ref0, written_mb}
 
 -- ## One macroblock
 
 pub written-written : (to : Layer) (mb : Mb) → written_mb to (written_mb to mb) ≡ written_mb to mb
-written-written to mb = ap (λ (m : Mb). let v : Mb = record m { ref0 = not (mode_flag_of to) && is_ref0 mb } in v) (normal-normal mb)
+written-written to mb = ap (λ (m : Mb). let v : Mb = record m { ref0 = has_ref0 to && is_ref0 mb } in v) (normal-normal mb)
 
 -- a macroblock in normal form, with the test of its reference indices, is the written one
-pub same_written : (old now : Mb) (b : Bool) → now ≡ normal old → b ≡ is_ref0 now → (let v : Mb = record now { ref0 = b } in v) ≡ written_mb Cavlc old
-same_written old now b e f = ap (λ x. let v : Mb = record now { ref0 = x } in v) f ∙ ap (λ (m : Mb). let v : Mb = record m { ref0 = is_ref0 m } in v) e
+pub same_written : (to : Layer) (old now : Mb) (b : Bool) → now ≡ normal old → b ≡ (has_ref0 to && is_ref0 now) → (let v : Mb = record now { ref0 = b } in v) ≡ written_mb to old
+same_written to old now b e f = ap (λ x. let v : Mb = record now { ref0 = x } in v) f ∙ ap (λ (m : Mb). let v : Mb = record m { ref0 = has_ref0 to && is_ref0 m } in v) e
 
 sent_list : (shape : SliceShape) (mb : Mb) (b : Bool) (x : ℕ) → IsListSent shape mb x → IsListSent shape (record mb { ref0 = b }) x
 sent_list shape mb b x is = record { refs = is.refs; refs_repeat = is.refs_repeat; mvd = is.mvd; mvd_repeat = is.mvd_repeat }
@@ -61,7 +60,7 @@ second_of true b h = h
 second_of false b h = absurd cc
 
 pub written_valid : (to : Layer) (shape : SliceShape) (mb : Mb) → IsMacroblock shape mb → (IsEmptied mb → ⊥) → IsMacroblock shape (written_mb to mb)
-written_valid to shape mb is kept = with_ref0 shape (normal mb) (not (mode_flag_of to) && is_ref0 mb) (second_of (not (mode_flag_of to)) (is_ref0 mb)) (valid-normal shape mb is kept)
+written_valid to shape mb is kept = with_ref0 shape (normal mb) (has_ref0 to && is_ref0 mb) (second_of (has_ref0 to) (is_ref0 mb)) (valid-normal shape mb is kept)
 
 pattern_sent : (mb : Mb) → is_inter mb.kind ≡ true → pattern_of mb ≡ mb.pattern
 pattern_sent mb inter = by mb.kind inter

@@ -5,13 +5,8 @@ use Rattle.std.proofs.lemmas.List.{map-append, take_more, take-append-drop}
 use Rattle.bit_texts.specs.Bits.{bits_of}
 use Rattle.bit_texts.specs.Texts.{Appended}
 use Rattle.h264_types.specs.Sizes.{HasSizes}
-use Rattle.cavlc_syntax.specs.SliceText.{IsBuiltShape, HasText, slice_text, NoList}
+use Rattle.cavlc_syntax.specs.SliceText.{IsBuiltShape, HasText, IsText, slice_text, NoList as NoText}
 use Rattle.h264_types.specs.Valid.{IsSlice}
-use Rattle.cavlc_syntax.specs.Standing.{Refuses}
-use Rattle.cavlc_syntax.specs.Written.{BeginsSlice, WritesFor}
-use Rattle.cavlc_syntax.specs.declared.writer.CavlcWriter.{CavlcWriter}
-use Rattle.cavlc_syntax.specs.declared.fault.SliceFault.{SliceFault}
-use Rattle.cavlc_syntax.specs.declared.fault.SliceFault.TheVariants as macroblocks
 use Rattle.cavlc_syntax.proofs.Texts.{slice_of_both, slice_fills}
 use Rattle.h264_types.specs.declared.fault.Case.{Case}
 use Rattle.h264_types.specs.declared.fault.Why.{Why}
@@ -21,6 +16,7 @@ use Rattle.h264_types.specs.declared.layer.Layer.TheVariants.{Cavlc, Cabac}
 use Rattle.h264_types.specs.declared.macroblock.Mb.{Mb}
 use Rattle.h264_types.specs.SliceShape.{without_column}
 use Rattle.h264_types.specs.declared.slice_shape.SliceShape.{SliceShape}
+use Rattle.init_table.specs.declared.table.InitTable.{InitTable}
 use Rattle.param_sets.specs.PpsCodes.{mode_flag_of}
 use Rattle.param_sets.specs.Sets.{SetMaps}
 use Rattle.param_sets.specs.SpsCodes.{IsSps}
@@ -33,18 +29,27 @@ use Rattle.header_parts.specs.declared.fault.HeaderFault.{HeaderFault}
 use Rattle.header_parts.specs.declared.fault.HeaderFault.TheVariants as headers
 use Rattle.header_parts.specs.declared.header.Header.{Header}
 use Rattle.slice_header.proofs.HeaderLaws.{same_text}
+use Rattle.slice_data.specs.Reading.{NoList}
+use Rattle.slice_data.specs.Writing.{BeginsSlice}
+use Rattle.slice_data.specs.declared.fault.SliceFault.{SliceFault}
+use Rattle.slice_data.specs.declared.fault.SliceFault.TheVariants.{NoReading}
 use Rattle.slice_rewrite.specs.declared.fault.RewriteFault.{RewriteFault}
 use Rattle.slice_rewrite.specs.declared.fault.RewriteFault.TheVariants.{Outside, Stop, Memory}
 use Rattle.slice_rewrite.specs.Items.{is_unbuilt, IsSliceOf}
 use Rattle.slice_rewrite.specs.Stops.{least_stop}
 use Rattle.slice_rewrite.specs.Verdict.{IsNoData, IsNoSlice}
-use Rattle.slice_rewrite.specs.Written.{written_mb, slice_under, slice_in, slice_bits}
+use Rattle.slice_rewrite.specs.Written.{slice_under, slice_in, slice_bits}
+use Rattle.slice_data.specs.WrittenForm.{written_mb}
 use Rattle.slice_rewrite.specs.declared.opening.OpenSlice.{OpenSlice}
 use Rattle.slice_rewrite.specs.Faults.{fault_of_header, fault_of_data}
 use Rattle.slice_rewrite.specs.SliceForms.{sets_in, Ends, IsSliceForm, IsSliceRefusal, coded, IsSliceRead, IsNotOpened, IsOpened, IsUnderSets, IsSliceWritten, IsNotWritten, IsCopy, IsNoCopy, IsNoDataRead, IsDataWritten, IsNoDataWritten}
 use Rattle.slice_rewrite.proofs.Normal.{front_written}
 use Rattle.slice_rewrite.proofs.Slices.{fit, not_unbuilt, names-once, header-once, header-found, built_shape, built_under}
 use Rattle.slice_rewrite.proofs.Stops.{none_emptied}
+
+-- Data in CAVLC are the same for every table of initial pairs.
+abbrev pub any_table : InitTable
+any_table = record { pairs = [] }
 
 -- ## The header
 
@@ -88,10 +93,10 @@ slice_opened to sets header bits s mbs r list read =
       rest_is = read ∙ ap (λ shape. slice_text shape (length s.bits.taken) mbs) r.shape ∙ ap (λ n. slice_text (shape_of (sets_in s) s.header) n mbs) (places bits s.bits.taken s.bits.left r.kept);
     }
 
-pub data_refused : (to : Layer) (sets : SetMaps) (header : ℕ) (bits : List Bool) (s : OpenSlice) (why : Why) → IsOpened to sets header bits s → why ≡ BadSlice → NoList s.shape (length s.bits.taken) s.bits.left → IsNoSlice to sets header bits why
+pub data_refused : (to : Layer) (sets : SetMaps) (header : ℕ) (bits : List Bool) (s : OpenSlice) (why : Why) → IsOpened to sets header bits s → why ≡ BadSlice → NoText s.shape (length s.bits.taken) s.bits.left → IsNoSlice to sets header bits why
 data_refused to sets header bits s why r bad none =
-    let P : SliceShape → Type 0 = λ shape. NoList shape (length s.bits.taken) s.bits.left in
-    let Q : ℕ → Type 0 = λ n. NoList (shape_of (sets_in s) s.header) n s.bits.left in
+    let P : SliceShape → Type 0 = λ shape. NoText shape (length s.bits.taken) s.bits.left in
+    let Q : ℕ → Type 0 = λ n. NoText (shape_of (sets_in s) s.header) n s.bits.left in
     let N : Bool → Type 0 = λ b. IsNoData b (shape_of (sets_in s) s.header) (length bits - length s.bits.left) s.bits.left why in
     inr (record {
       h = s.header;
@@ -104,11 +109,15 @@ data_refused to sets header bits s why r bad none =
 
 -- ## Reading
 
-pub no_data_read : (shape : SliceShape) (pos : ℕ) (left : List Bool) (fault : SliceFault) → Refuses shape pos left fault → IsNoDataRead shape pos left (fault_of_data fault)
-no_data_read shape pos left macroblocks.NoReading h = (refl, h)
-no_data_read shape pos left macroblocks.Memory h = tt
+-- what a reader says of data that it refuses
+abbrev pub Refuses : (SliceShape → List Mb → Type 0) → (SliceShape → ℕ → List Mb → List Bool → Type 0) → SliceShape → ℕ → List Bool → SliceFault → Type 0
+Refuses HasData IsData shape pos left NoReading = NoList HasData IsData shape pos left
 
-pub not_read : (to : Layer) (sets : SetMaps) (header : ℕ) (bits : List Bool) (s : OpenSlice) (fault : RewriteFault) → IsOpened to sets header bits s → IsNoDataRead s.shape (length s.bits.taken) s.bits.left fault → IsNotOpened to sets header bits fault
+pub no_data_read : (HasData : SliceShape → List Mb → Type 0) (IsData : SliceShape → ℕ → List Mb → List Bool → Type 0) (shape : SliceShape) (pos : ℕ) (left : List Bool) (fault : SliceFault)
+    → Refuses HasData IsData shape pos left fault → IsNoDataRead HasData IsData shape pos left (fault_of_data fault)
+no_data_read HasData IsData shape pos left NoReading h = (refl, h)
+
+pub not_read : (to : Layer) (sets : SetMaps) (header : ℕ) (bits : List Bool) (s : OpenSlice) (fault : RewriteFault) → IsOpened to sets header bits s → IsNoDataRead HasText IsText s.shape (length s.bits.taken) s.bits.left fault → IsNotOpened to sets header bits fault
 not_read to sets header bits s (Outside why) r none = data_refused to sets header bits s why r none.0 none.1
 not_read to sets header bits s (Stop case k) r none = none
 not_read to sets header bits s Memory r none = tt
@@ -134,8 +143,10 @@ payload_written to number idc active h mbs shape out after payload is written pu
     let text = header_text t.active t.header in
     bytes ∙ put ∙ ap (λ x. x ++ slice_text shape (length x) t.mbs) written ∙ ap (λ x. text ++ x) (slice_of_both shape (shape_of t.active t.header) (length text) t.mbs (ap without_column is))
 
-pub data_fills : (shape : SliceShape) (before after : List Bool) (mbs : List Mb) → after ≡ before ++ slice_text shape (length before) mbs → length after % 8 ≡ 0
-data_fills shape before after mbs e = ap (λ x. length x % 8) e ∙ ap (λ n. n % 8) (length-append before (slice_text shape (length before) mbs)) ∙ slice_fills shape (length before) mbs
+pub data_fills : (shape : SliceShape) (before after text : List Bool) (mbs : List Mb) → IsText shape (length before) mbs text → after ≡ before ++ text → length after % 8 ≡ 0
+data_fills shape before after text mbs is put =
+    let e = put ∙ ap (λ x. before ++ x) is in
+    ap (λ x. length x % 8) e ∙ ap (λ n. n % 8) (length-append before (slice_text shape (length before) mbs)) ∙ slice_fills shape (length before) mbs
 
 -- the shape of the slice under the sets that its header names
 abbrev pub IsShape : SetMaps → Header → SliceShape → Type 0
@@ -152,32 +163,32 @@ all_snoc P (x ∷ done) mb is p zero d below = is zero d (omega arith)
 all_snoc P (x ∷ done) mb is p (suc k) d below = all_snoc P done mb (λ j e within. is (suc j) e (omega (arith, within))) p k d (omega (arith, below))
 
 -- a macroblock that isn't emptied may be put behind others in their written form
-pub begins_written : (shape : SliceShape) (done tail : List Mb) (mb : Mb) → IsSlice shape ((done ++ mb ∷ []) ++ tail) → least_stop Cavlc shape done ≡ None → (IsEmptied mb → ⊥)
-    → BeginsSlice shape (map (written_mb Cavlc) done ++ written_mb Cavlc mb ∷ [])
-begins_written shape done tail mb are goes_on kept =
+pub begins_written : (to : Layer) (shape : SliceShape) (done tail : List Mb) (mb : Mb) → IsSlice shape ((done ++ mb ∷ []) ++ tail) → least_stop to shape done ≡ None → (IsEmptied mb → ⊥)
+    → BeginsSlice shape (map (written_mb to) done ++ written_mb to mb ∷ [])
+begins_written to shape done tail mb are goes_on kept =
     let K : Mb → Type 0 = λ m. IsEmptied m → ⊥ in
-    let all = all_snoc K done mb (none_emptied Cavlc shape done goes_on) kept in
+    let all = all_snoc K done mb (none_emptied to shape done goes_on) kept in
     let P : List Mb → Type 0 = λ front. IsSlice shape (front ++ tail) in
-    (tail, subst P (map-append (written_mb Cavlc) done (mb ∷ [])) (front_written Cavlc shape (done ++ mb ∷ []) tail are all))
+    (tail, subst P (map-append (written_mb to) done (mb ∷ [])) (front_written to shape (done ++ mb ∷ []) tail are all))
 
 -- the same of macroblock k behind the first k
-pub begins_at : (shape : SliceShape) (mbs : List Mb) (k : ℕ) (d : Mb) → k < length mbs → IsSlice shape mbs → least_stop Cavlc shape (take k mbs) ≡ None → (IsEmptied (get_or mbs k d) → ⊥)
-    → BeginsSlice shape (map (written_mb Cavlc) (take k mbs) ++ written_mb Cavlc (get_or mbs k d) ∷ [])
-begins_at shape mbs k d below are goes_on kept =
+pub begins_at : (to : Layer) (shape : SliceShape) (mbs : List Mb) (k : ℕ) (d : Mb) → k < length mbs → IsSlice shape mbs → least_stop to shape (take k mbs) ≡ None → (IsEmptied (get_or mbs k d) → ⊥)
+    → BeginsSlice shape (map (written_mb to) (take k mbs) ++ written_mb to (get_or mbs k d) ∷ [])
+begins_at to shape mbs k d below are goes_on kept =
     let A : List Mb → Type 0 = IsSlice shape in
     let whole : (take k mbs ++ get_or mbs k d ∷ []) ++ drop (k + 1) mbs ≡ mbs = ap (λ x. x ++ drop (k + 1) mbs) (sym (take_more mbs k d below)) ∙ take-append-drop (k + 1) mbs in
-    begins_written shape (take k mbs) (drop (k + 1) mbs) (get_or mbs k d) (subst A (sym whole) are) goes_on kept
+    begins_written to shape (take k mbs) (drop (k + 1) mbs) (get_or mbs k d) (subst A (sym whole) are) goes_on kept
 
 pub slice_put : (to : Layer) (number idc : ℕ) (sets : SetMaps) (active : Active) (h : Header) (mbs : List Mb) (shape : SliceShape) (start out after : List Bool) (payload : List ℕ) → to ≡ Cavlc → IsUnderSets sets active h mbs → IsShape sets h shape → start ≡ []
-    → ((a : Active) → Names sets h.pic_parameter_set_id a → Appended start out (header_text (active_in to number a) (header_in to number idc h))) → IsDataWritten shape mbs out after → bits_of payload ≡ after
+    → ((a : Active) → Names sets h.pic_parameter_set_id a → Appended start out (header_text (active_in to number a) (header_in to number idc h))) → IsDataWritten IsText Cavlc shape mbs out after → bits_of payload ≡ after
     → IsSliceWritten to number idc (coded active h mbs) payload
 slice_put Cabac number idc sets active h mbs shape start out after payload e u is none put d bytes = absurd cc
 slice_put Cavlc number idc sets active h mbs shape start out after payload e u is none put d bytes = record {
   goes_on = ap (λ s. least_stop Cavlc s mbs) (sym (is active u.names)) ∙ d.goes_on;
-  written = payload_written Cavlc number idc active h mbs shape out after payload (is active u.names) (header_written Cavlc number idc active h start out none (put active u.names)) d.written bytes;
+  written = payload_written Cavlc number idc active h mbs shape out after payload (is active u.names) (header_written Cavlc number idc active h start out none (put active u.names)) (d.written ∙ ap (λ x. out ++ x) d.is_text) bytes;
 }
 
-pub slice_not_put : (to : Layer) (sets : SetMaps) (active : Active) (h : Header) (mbs : List Mb) (shape : SliceShape) (fault : RewriteFault) → to ≡ Cavlc → IsUnderSets sets active h mbs → IsShape sets h shape → IsNoDataWritten shape mbs fault → IsNotWritten to (coded active h mbs) fault
+pub slice_not_put : (to : Layer) (sets : SetMaps) (active : Active) (h : Header) (mbs : List Mb) (shape : SliceShape) (fault : RewriteFault) → to ≡ Cavlc → IsUnderSets sets active h mbs → IsShape sets h shape → IsNoDataWritten Cavlc shape mbs fault → IsNotWritten to (coded active h mbs) fault
 slice_not_put Cabac sets active h mbs shape fault e u is none = absurd cc
 slice_not_put Cavlc sets active h mbs shape (Outside why) e u is none = none
 slice_not_put Cavlc sets active h mbs shape (Stop case k) e u is none = ap (λ s. least_stop Cavlc s mbs) (sym (is active u.names)) ∙ none
@@ -207,32 +218,34 @@ under_built sets active h mbs shape u is range =
 
 -- ## Reading and writing
 
-pub no_copy : (shape : SliceShape) (pos : ℕ) (left : List Bool) (fault : SliceFault) → Refuses shape pos left fault → IsNoCopy shape pos left (fault_of_data fault)
-no_copy shape pos left macroblocks.NoReading h = (refl, h)
-no_copy shape pos left macroblocks.Memory h = tt
+pub no_copy : (HasData : SliceShape → List Mb → Type 0) (IsData : SliceShape → ℕ → List Mb → List Bool → Type 0) (to : Layer) (shape : SliceShape) (pos : ℕ) (left : List Bool) (fault : SliceFault)
+    → Refuses HasData IsData shape pos left fault → IsNoCopy HasData IsData to shape pos left (fault_of_data fault)
+no_copy HasData IsData to shape pos left NoReading h = (refl, h)
 
--- the end of the data that were read
-pub data_ended : {K : Type 0} (bits : K → List Bool) (writer : CavlcWriter K) (shape : SliceShape) (pos : ℕ) (all before : List Bool) (done : List Mb) (stop : Option (Case × ℕ)) (count : ℕ) (result : Result (K × ℕ) RewriteFault) → HasText shape done
-    → all ≡ slice_text shape pos done → least_stop Cavlc shape done ≡ stop → (stop ≡ None → WritesFor bits writer shape before (map (written_mb Cavlc) done)) → length done ≡ count → Ends bits writer stop count result
-    → IfOk result (λ copy. IsCopy shape pos all before (bits copy.0) copy.1)
-data_ended bits writer shape pos all before done None count (Ok copy) text read stop_is writes counted e =
-    record { mbs = done; list = text; read = read; goes_on = stop_is; written = e.1 shape before (map (written_mb Cavlc) done) (writes refl); counted = e.0 ∙ sym counted }
-data_ended bits writer shape pos all before done None count (Err fault) text read stop_is writes counted e = tt
-data_ended bits writer shape pos all before done (Some stop) count (Ok copy) text read stop_is writes counted e = absurd cc
-data_ended bits writer shape pos all before done (Some stop) count (Err fault) text read stop_is writes counted e = tt
+module _ {W S : Type 0} (HasData : SliceShape → List Mb → Type 0) (IsData IsWritten : SliceShape → ℕ → List Mb → List Bool → Type 0) (Writes : W → SliceShape → List Bool → List Mb → Type 0) (bits : S → List Bool) (to : Layer) where
+  -- the end of the data that were read
+  pub data_ended : (writer : W) (shape : SliceShape) (pos : ℕ) (all before : List Bool) (done : List Mb) (stop : Option (Case × ℕ)) (count : ℕ) (result : Result (S × ℕ) RewriteFault) → HasData shape done
+      → IsData shape pos done all → least_stop to shape done ≡ stop → (stop ≡ None → Writes writer shape before (map (written_mb to) done)) → length done ≡ count → Ends Writes IsWritten bits writer stop count result
+      → IfOk result (λ copy. IsCopy HasData IsData IsWritten to shape pos all before (bits copy.0) copy.1)
+  data_ended writer shape pos all before done None count (Ok copy) has read stop_is writes counted e =
+      let put = e.1 shape before (map (written_mb to) done) (writes refl) in
+      record { mbs = done; list = has; read = read; goes_on = stop_is; text = put.0; is_text = put.1; written = put.2; counted = e.0 ∙ sym counted }
+  data_ended writer shape pos all before done None count (Err fault) has read stop_is writes counted e = tt
+  data_ended writer shape pos all before done (Some stop) count (Ok copy) has read stop_is writes counted e = absurd cc
+  data_ended writer shape pos all before done (Some stop) count (Err fault) has read stop_is writes counted e = tt
 
-pub data_stopped : {K : Type 0} (bits : K → List Bool) (writer : CavlcWriter K) (shape : SliceShape) (pos : ℕ) (all : List Bool) (done : List Mb) (stop : Option (Case × ℕ)) (count : ℕ) (result : Result (K × ℕ) RewriteFault) → HasText shape done
-    → all ≡ slice_text shape pos done → least_stop Cavlc shape done ≡ stop → Ends bits writer stop count result → IfErr result (IsNoCopy shape pos all)
-data_stopped bits writer shape pos all done None count (Ok copy) text read stop_is e = tt
-data_stopped bits writer shape pos all done None count (Err fault) text read stop_is e = subst (IsNoCopy shape pos all) (sym e) tt
-data_stopped bits writer shape pos all done (Some stop) count result text read stop_is e =
-    let P : Result _ RewriteFault → Type 0 = λ r. IfErr r (IsNoCopy shape pos all) in
-    subst P (sym e) (done, text, read, stop_is)
+  pub data_stopped : (writer : W) (shape : SliceShape) (pos : ℕ) (all : List Bool) (done : List Mb) (stop : Option (Case × ℕ)) (count : ℕ) (result : Result (S × ℕ) RewriteFault) → HasData shape done
+      → IsData shape pos done all → least_stop to shape done ≡ stop → Ends Writes IsWritten bits writer stop count result → IfErr result (IsNoCopy HasData IsData to shape pos all)
+  data_stopped writer shape pos all done None count (Ok copy) has read stop_is e = tt
+  data_stopped writer shape pos all done None count (Err fault) has read stop_is e = subst (IsNoCopy HasData IsData to shape pos all) (sym e) tt
+  data_stopped writer shape pos all done (Some stop) count result has read stop_is e =
+      let P : Result _ RewriteFault → Type 0 = λ r. IfErr r (IsNoCopy HasData IsData to shape pos all) in
+      subst P (sym e) (done, has, read, stop_is)
 
 is_cavlc : {A : Type 0} → mode_flag_of Cabac ≡ false → A
 is_cavlc e = absurd cc
 
-pub not_copied : (to : Layer) (sets : SetMaps) (header : ℕ) (bits : List Bool) (s : OpenSlice) (fault : RewriteFault) → mode_flag_of to ≡ false → IsOpened to sets header bits s → IsNoCopy s.shape (length s.bits.taken) s.bits.left fault
+pub not_copied : (to : Layer) (sets : SetMaps) (header : ℕ) (bits : List Bool) (s : OpenSlice) (fault : RewriteFault) → mode_flag_of to ≡ false → IsOpened to sets header bits s → IsNoCopy HasText IsText Cavlc s.shape (length s.bits.taken) s.bits.left fault
     → IsSliceRefusal to sets header bits fault
 not_copied Cabac sets header bits s fault e r none = is_cavlc e
 not_copied Cavlc sets header bits s (Outside why) e r none = data_refused Cavlc sets header bits s why r none.0 none.1
@@ -241,13 +254,13 @@ not_copied Cavlc sets header bits s (Stop case k) e r none =
 not_copied Cavlc sets header bits s Memory e r none = tt
 
 pub copied : (to : Layer) (number : ℕ) (sets : SetMaps) (header : ℕ) (bits : List Bool) (s : OpenSlice) (start out after : List Bool) (payload : List ℕ) (count : ℕ) → mode_flag_of to ≡ false → IsOpened to sets header bits s → start ≡ []
-    → Appended start out (header_text (active_in to number (sets_in s)) (header_in to number 0 s.header)) → IsCopy s.shape (length s.bits.taken) s.bits.left out after count → bits_of payload ≡ after → IsSliceForm to number sets header bits payload count
+    → Appended start out (header_text (active_in to number (sets_in s)) (header_in to number 0 s.header)) → IsCopy HasText IsText IsText Cavlc s.shape (length s.bits.taken) s.bits.left out after count → bits_of payload ≡ after → IsSliceForm to number sets header bits payload count
 copied Cabac number sets header bits s start out after payload count e r none put k bytes = is_cavlc e
 copied Cavlc number sets header bits s start out after payload count e r none put k bytes = record {
   slice = coded (sets_in s) s.header k.mbs;
   read = slice_opened Cavlc sets header bits s k.mbs r k.list k.read;
   goes_on = ap (λ x. least_stop Cavlc x k.mbs) (sym r.shape) ∙ k.goes_on;
-  written = payload_written Cavlc number 0 (sets_in s) s.header k.mbs s.shape out after payload r.shape (header_written Cavlc number 0 (sets_in s) s.header start out none put) k.written bytes;
+  written = payload_written Cavlc number 0 (sets_in s) s.header k.mbs s.shape out after payload r.shape (header_written Cavlc number 0 (sets_in s) s.header start out none put) (k.written ∙ ap (λ x. out ++ x) k.is_text) bytes;
   count = k.counted;
 }
 

@@ -14,7 +14,7 @@ use Rattle.h264_types.specs.declared.slice_shape.SliceShape.{SliceShape}
 use Rattle.h264_types.specs.Valid.{IsMacroblock}
 use Rattle.pattern_fix.specs.NormalPattern.{IsEmptied}
 use Rattle.slice_rewrite.specs.Stops.{is_emptied, is_beyond_in, mb_stop, stop_or, stop_from, least_stop}
-use Rattle.slice_rewrite.specs.Written.{written_mb}
+use Rattle.slice_data.specs.WrittenForm.{written_mb}
 use Rattle.slice_rewrite.proofs.Normal.{emptied_is, written_is_within}
 
 -- ## One macroblock

@@ -1,8 +1,8 @@
 -- Faults of the layers below, as those of a unit.
 use Rattle.annexb_units.specs.declared.unescaping.EscapeFault.{EscapeFault}
 use Rattle.annexb_units.specs.declared.unescaping.EscapeFault.TheVariants as payloads
-use Rattle.cavlc_syntax.specs.declared.fault.SliceFault.{SliceFault}
-use Rattle.cavlc_syntax.specs.declared.fault.SliceFault.TheVariants as macroblocks
+use Rattle.slice_data.specs.declared.fault.SliceFault.{SliceFault}
+use Rattle.slice_data.specs.declared.fault.SliceFault.TheVariants as macroblocks
 use Rattle.h264_types.specs.declared.fault.Why.TheVariants.{Escape as BadEscape, Profile as BadProfile, Header as BadHeader, MissingSps, MissingPps, Slice as BadSlice}
 use Rattle.header_parts.specs.declared.fault.HeaderFault.{HeaderFault}
 use Rattle.header_parts.specs.declared.fault.HeaderFault.TheVariants as headers
@@ -22,4 +22,3 @@ fault_of_header headers.Memory = Memory
 
 abbrev pub fault_of_data : SliceFault → RewriteFault
 fault_of_data macroblocks.NoReading = Outside BadSlice
-fault_of_data macroblocks.Memory = Memory

@@ -2,10 +2,8 @@
 use Rattle.std.specs.Prelude.{◌≡◌, ℕ, Bool, false, List, [], ◌∷◌, ◌++◌, length, map, Option, Some, None, Result, Ok, Err}
 use Rattle.std.specs.declared.alloc.AllocError.{AllocError}
 use Rattle.bit_texts.specs.Bits.{bits_of}
-use Rattle.cavlc_syntax.specs.SliceText.{IsBuilt, HasText, slice_text, NoList}
+use Rattle.cavlc_syntax.specs.SliceText.{IsBuilt}
 use Rattle.h264_types.specs.Valid.{IsSlice}
-use Rattle.cavlc_syntax.specs.Written.{WritesFor}
-use Rattle.cavlc_syntax.specs.declared.writer.CavlcWriter.{CavlcWriter}
 use Rattle.h264_types.specs.declared.fault.Case.{Case}
 use Rattle.h264_types.specs.declared.fault.Why.TheVariants.{Slice as BadSlice}
 use Rattle.h264_types.specs.declared.layer.Layer.{Layer}
@@ -16,6 +14,7 @@ use Rattle.param_sets.specs.PpsCodes.{IsPps}
 use Rattle.param_sets.specs.Sets.{SetMaps}
 use Rattle.param_sets.specs.SpsCodes.{IsSps}
 use Rattle.slice_header.specs.HeaderCodes.{HeaderFits, HeaderText, Names}
+use Rattle.slice_data.specs.Reading.{NoList}
 use Rattle.slice_header.specs.Shape.{shape_of}
 use Rattle.header_parts.specs.ActiveSets.{Active, active_view}
 use Rattle.header_parts.specs.declared.header.Header.{Header}
@@ -23,9 +22,10 @@ use Rattle.slice_rewrite.specs.declared.fault.RewriteFault.{RewriteFault}
 use Rattle.slice_rewrite.specs.declared.fault.RewriteFault.TheVariants.{Outside, Stop, Memory}
 use Rattle.slice_rewrite.specs.declared.opening.OpenSlice.{OpenSlice}
 use Rattle.slice_rewrite.specs.Items.{Slice, is_unbuilt, IsSliceOf}
-use Rattle.slice_rewrite.specs.Stops.{mb_stop, least_stop, slice_stop}
+use Rattle.slice_rewrite.specs.Stops.{is_level_beyond, mb_stop, least_stop, slice_stop}
 use Rattle.slice_rewrite.specs.Verdict.{IsNoSlice}
-use Rattle.slice_rewrite.specs.Written.{written_mb, slice_under, slice_bits}
+use Rattle.slice_rewrite.specs.Written.{slice_under, slice_bits}
+use Rattle.slice_data.specs.WrittenForm.{written_mb}
 
 -- ## Whole slices
 
@@ -89,49 +89,58 @@ IsNotWritten to s (Outside why) = ⊥
 IsNotWritten to s (Stop case k) = slice_stop to s ≡ Some (case, k)
 IsNotWritten to s Memory = Unit {0}
 
--- ## Slice data
+-- ## Slice data, of any layer and for any layer. Of the layer that is read `HasData` says which lists of macroblocks have data,
+-- and `IsData` which bits these are, with so many before them; of the layer that is written `IsWritten` does.
 
 -- the bits left, with so many before them, are the data of a slice that can be written, which were written again behind others
-pub record IsCopy (shape : SliceShape) (pos : ℕ) (left before after : List Bool) (count : ℕ) : Type 0 where
+pub record IsCopy (HasData : SliceShape → List Mb → Type 0) (IsData IsWritten : SliceShape → ℕ → List Mb → List Bool → Type 0) (to : Layer) (shape : SliceShape) (pos : ℕ) (left before after : List Bool) (count : ℕ) : Type 0 where
   pub mbs : List Mb
-  pub list : HasText shape mbs
-  pub read : left ≡ slice_text shape pos mbs
-  pub goes_on : least_stop Cavlc shape mbs ≡ None
-  pub written : after ≡ before ++ slice_text shape (length before) (map (written_mb Cavlc) mbs)
+  pub list : HasData shape mbs
+  pub read : IsData shape pos mbs left
+  pub goes_on : least_stop to shape mbs ≡ None
+  pub text : List Bool
+  pub is_text : IsWritten shape (length before) (map (written_mb to) mbs) text
+  pub written : after ≡ before ++ text
   pub counted : count ≡ length mbs
 
 -- they are those of a slice that stops so, or of none, or there is no memory
-abbrev pub IsNoCopy : SliceShape → ℕ → List Bool → RewriteFault → Type 0
-IsNoCopy shape pos left (Outside why) = (why ≡ BadSlice) × NoList shape pos left
-IsNoCopy shape pos left (Stop case k) = (mbs : List Mb) × HasText shape mbs × (left ≡ slice_text shape pos mbs) × (least_stop Cavlc shape mbs ≡ Some (case, k))
-IsNoCopy shape pos left Memory = Unit {0}
+abbrev pub IsNoCopy : (SliceShape → List Mb → Type 0) → (SliceShape → ℕ → List Mb → List Bool → Type 0) → Layer → SliceShape → ℕ → List Bool → RewriteFault → Type 0
+IsNoCopy HasData IsData to shape pos left (Outside why) = (why ≡ BadSlice) × NoList HasData IsData shape pos left
+IsNoCopy HasData IsData to shape pos left (Stop case k) = (mbs : List Mb) × HasData shape mbs × IsData shape pos mbs left × (least_stop to shape mbs ≡ Some (case, k))
+IsNoCopy HasData IsData to shape pos left Memory = Unit {0}
 
 -- the data are those of no slice, or there is no memory
-abbrev pub IsNoDataRead : SliceShape → ℕ → List Bool → RewriteFault → Type 0
-IsNoDataRead shape pos left (Outside why) = (why ≡ BadSlice) × NoList shape pos left
-IsNoDataRead shape pos left (Stop case k) = ⊥
-IsNoDataRead shape pos left Memory = Unit {0}
+abbrev pub IsNoDataRead : (SliceShape → List Mb → Type 0) → (SliceShape → ℕ → List Mb → List Bool → Type 0) → SliceShape → ℕ → List Bool → RewriteFault → Type 0
+IsNoDataRead HasData IsData shape pos left (Outside why) = (why ≡ BadSlice) × NoList HasData IsData shape pos left
+IsNoDataRead HasData IsData shape pos left (Stop case k) = ⊥
+IsNoDataRead HasData IsData shape pos left Memory = Unit {0}
 
 -- these macroblocks can be written, and their data were, behind others
-pub record IsDataWritten (shape : SliceShape) (mbs : List Mb) (before after : List Bool) : Type 0 where
-  pub goes_on : least_stop Cavlc shape mbs ≡ None
-  pub written : after ≡ before ++ slice_text shape (length before) (map (written_mb Cavlc) mbs)
+pub record IsDataWritten (IsWritten : SliceShape → ℕ → List Mb → List Bool → Type 0) (to : Layer) (shape : SliceShape) (mbs : List Mb) (before after : List Bool) : Type 0 where
+  pub goes_on : least_stop to shape mbs ≡ None
+  pub text : List Bool
+  pub is_text : IsWritten shape (length before) (map (written_mb to) mbs) text
+  pub written : after ≡ before ++ text
 
 -- the least of them that can't be written is this, or there is no memory
-abbrev pub IsNoDataWritten : SliceShape → List Mb → RewriteFault → Type 0
-IsNoDataWritten shape mbs (Outside why) = ⊥
-IsNoDataWritten shape mbs (Stop case k) = least_stop Cavlc shape mbs ≡ Some (case, k)
-IsNoDataWritten shape mbs Memory = Unit {0}
+abbrev pub IsNoDataWritten : Layer → SliceShape → List Mb → RewriteFault → Type 0
+IsNoDataWritten to shape mbs (Outside why) = ⊥
+IsNoDataWritten to shape mbs (Stop case k) = least_stop to shape mbs ≡ Some (case, k)
+IsNoDataWritten to shape mbs Memory = Unit {0}
 
 -- what the end of slice data says: the writer's data were ended, or the stop is told
-abbrev pub Ends : {B : Type 0} → (B → List Bool) → CavlcWriter B → Option (Case × ℕ) → ℕ → Result (B × ℕ) RewriteFault → Type 0
-Ends bits writer None count (Ok copy) = (copy.1 ≡ count)
-    × ((shape : SliceShape) (before : List Bool) (done : List Mb) → WritesFor bits writer shape before done → bits copy.0 ≡ before ++ slice_text shape (length before) done)
-Ends bits writer None count (Err fault) = fault ≡ Memory
-Ends bits writer (Some stop) count result = result ≡ Err (Stop stop.0 stop.1)
+abbrev pub Ends : {W S : Type 0} → (W → SliceShape → List Bool → List Mb → Type 0) → (SliceShape → ℕ → List Mb → List Bool → Type 0) → (S → List Bool) → W → Option (Case × ℕ) → ℕ → Result (S × ℕ) RewriteFault → Type 0
+Ends Writes IsWritten bits writer None count (Ok copy) = (copy.1 ≡ count)
+    × ((shape : SliceShape) (before : List Bool) (done : List Mb) → Writes writer shape before done → (text : List Bool) × IsWritten shape (length before) done text × (bits copy.0 ≡ before ++ text))
+Ends Writes IsWritten bits writer None count (Err fault) = fault ≡ Memory
+Ends Writes IsWritten bits writer (Some stop) count result = result ≡ Err (Stop stop.0 stop.1)
 
 -- what putting a macroblock in its written form says: it was put, or it can't be written, or there is no memory
-abbrev pub PutsWritten : {B : Type 0} → (B → List Bool) → CavlcWriter B → SliceShape → List Bool → List Mb → Mb → Result (Option Case) AllocError → Type 0
-PutsWritten bits new shape before done mb (Ok None) = (mb_stop Cavlc shape mb ≡ None) × WritesFor bits new shape before (done ++ written_mb Cavlc mb ∷ [])
-PutsWritten bits new shape before done mb (Ok (Some case)) = mb_stop Cavlc shape mb ≡ Some case
-PutsWritten bits new shape before done mb (Err fault) = Unit {0}
+abbrev pub PutsWritten : {W : Type 0} → (W → SliceShape → List Bool → List Mb → Type 0) → Layer → W → SliceShape → List Bool → List Mb → Mb → Result (Option Case) AllocError → Type 0
+PutsWritten Writes to new shape before done mb (Ok None) = (mb_stop to shape mb ≡ None) × Writes new shape before (done ++ written_mb to mb ∷ [])
+PutsWritten Writes to new shape before done mb (Ok (Some case)) = mb_stop to shape mb ≡ Some case
+PutsWritten Writes to new shape before done mb (Err fault) = Unit {0}
+
+-- of a writer that can't say the levels that its layer can't
+abbrev pub StopsIn : Layer → (SliceShape → Mb → Bool) → Type 0
+StopsIn to is_beyond = (shape : SliceShape) (mb : Mb) → is_beyond shape mb ≡ is_level_beyond to shape mb

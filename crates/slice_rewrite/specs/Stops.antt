@@ -13,7 +13,7 @@ use Rattle.h264_types.specs.declared.slice_shape.SliceShape.{SliceShape}
 use Rattle.pattern_fix.specs.NormalPattern.{normal_luma}
 use Rattle.slice_header.specs.Shape.{shape_of}
 use Rattle.slice_rewrite.specs.Items.{Slice}
-use Rattle.slice_rewrite.specs.Written.{written_mb}
+use Rattle.slice_data.specs.WrittenForm.{written_mb}
 
 -- Without a luma bit that stands for no level, nothing is left of its pattern, and with this would go its mb_qp_delta, which
 -- isn't 0 (7.3.5).
@@ -22,10 +22,14 @@ is_emptied mb =
     sends_pattern mb.kind
     && ((normal_luma mb == 0) && ((mb.pattern.chroma == 0) && not (int_eq mb.qp_delta (pos 0))))
 
--- as it is written in CAVLC, a level needs a longer level_prefix than the profile has (9.2.2.1)
+-- in CAVLC a level needs a longer level_prefix than the profile has (9.2.2.1); CABAC says all
+abbrev pub is_level_beyond : Layer → SliceShape → Mb → Bool
+is_level_beyond Cavlc shape mb = is_beyond_mb (prefix_bound shape) mb
+is_level_beyond Cabac shape mb = false
+
+-- the same of a macroblock as it is written
 abbrev pub is_beyond_in : Layer → SliceShape → Mb → Bool
-is_beyond_in Cavlc shape mb = is_beyond_mb (prefix_bound shape) (written_mb Cavlc mb)
-is_beyond_in Cabac shape mb = false
+is_beyond_in to shape mb = is_level_beyond to shape (written_mb to mb)
 
 -- why a macroblock can't be written in a layer
 abbrev pub mb_stop : Layer → SliceShape → Mb → Option Case

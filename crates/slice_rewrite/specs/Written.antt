@@ -1,17 +1,15 @@
 -- What is written for a stream.
-use Rattle.std.specs.Prelude.{ℕ, ◌-◌, Bool, ◌&&◌, not, List, [], ◌∷◌, ◌++◌, length, map, Option, Some, None}
+use Rattle.std.specs.Prelude.{ℕ, ◌-◌, Bool, List, [], ◌∷◌, ◌++◌, length, map, Option, Some, None}
 use Rattle.std.specs.List.{concat}
 use Rattle.bit_texts.specs.Bits.{bytes_of}
 use Rattle.cavlc_syntax.specs.SliceText.{slice_text}
 use Rattle.exp_golomb.specs.EmulationPrevention.{escaped}
 use Rattle.h264_types.specs.declared.layer.Layer.{Layer}
-use Rattle.h264_types.specs.declared.macroblock.Mb.{Mb}
-use Rattle.h264_types.specs.Valid.{is_ref0}
-use Rattle.param_sets.specs.PpsCodes.{mode_flag_of, pps_in, pps_text}
+use Rattle.param_sets.specs.PpsCodes.{pps_in, pps_text}
 use Rattle.param_sets.specs.SpsCodes.{sps_text, without_constraints}
 use Rattle.param_sets.specs.declared.pps.Pps.{Pps}
 use Rattle.param_sets.specs.declared.sps.Sps.{Sps}
-use Rattle.pattern_fix.specs.NormalPattern.{normal}
+use Rattle.slice_data.specs.WrittenForm.{written_mb}
 use Rattle.slice_header.specs.HeaderCodes.{active_in, header_in, header_text, unconstrained}
 use Rattle.slice_header.specs.Shape.{shape_of}
 use Rattle.slice_rewrite.specs.declared.plan.Plan.{Plan}
@@ -34,11 +32,6 @@ pps_unit to number header pps = header ∷ escaped (bytes_of (pps_text (pps_in t
 abbrev pub pps_units : Plan → Option (ℕ × ℕ) → List ℕ → ℕ → Pps → List (List ℕ)
 pps_units o None unit header pps = pps_unit o.to pps.pic_parameter_set_id header pps ∷ []
 pps_units o (Some range) unit header pps = unit ∷ pps_unit o.to (255 - pps.pic_parameter_set_id) header pps ∷ []
-
--- A macroblock is written in normal form: no luma bit of its pattern stands for levels that are all 0. In CAVLC its type is
--- P_8x8ref0 exactly where it is P_8x8 with four reference indices 0 (Table 7-13); CABAC has no such type.
-abbrev pub written_mb : Layer → Mb → Mb
-written_mb to mb = record (normal mb) { ref0 = not (mode_flag_of to) && is_ref0 mb }
 
 -- A slice in a layer, under its sets as they are written, of which the picture parameter set has this number.
 -- cabac_init_idc is `idc` where it stands.

@@ -3,8 +3,8 @@ ghost use Rattle.slice_rewrite.specs.declared.fault.RewriteFault.TheVariants.{Me
 ghost use Rattle.slice_rewrite.specs.Faults.{fault_of_data, fault_of_escape, fault_of_header};
 
 use annexb_units::EscapeFault;
-use cavlc_syntax::SliceFault;
 use h264_types::{Case, Why};
+use slice_data::SliceFault;
 use slice_header::HeaderFault;
 use std::alloc::{AllocError, AllocFailed};
 use thiserror::Error;
@@ -70,7 +70,6 @@ impl From<SliceFault> for RewriteFault {
     fn from(fault: SliceFault) -> RewriteFault {
         match fault {
             SliceFault::NoReading => RewriteFault::Outside(Why::Slice),
-            SliceFault::Memory => RewriteFault::Memory,
         }
     }
 }

@@ -20,7 +20,8 @@ ghost use Rattle.param_sets.specs.Sets.{SetMaps};
 ghost use Rattle.slice_rewrite.specs.Items.{Slice, Item, IsItem};
 ghost use Rattle.slice_rewrite.specs.Verdict.{Judges, Recodes, Refuses};
 ghost use Rattle.slice_rewrite.specs.View.{Reads, CanBeWritten, SaysTheSame, with_qp};
-ghost use Rattle.slice_rewrite.specs.Written.{written_mb, slice_in, output};
+ghost use Rattle.slice_rewrite.specs.Written.{slice_in, output};
+ghost use Rattle.slice_data.specs.WrittenForm.{written_mb};
 ghost use Rattle.slice_rewrite.specs.Stops.{is_emptied, least_stop};
 
 /// A unit that is refused has no item, and is refused for one reason.

@@ -1,35 +1,40 @@
 // Macroblocks in their written form.
-ghost use Rattle.std.specs.Prelude.{◌≡◌, ◌++◌, List, Bool};
-ghost use Rattle.cavlc_syntax.specs.Written.{WritesFor, MayPut};
-ghost use Rattle.h264_types.specs.declared.layer.Layer.TheVariants.{Cavlc};
+ghost use Rattle.std.specs.Prelude.{◌≡◌, ◌++◌, ◌&&◌, List, Bool};
 ghost use Rattle.h264_types.specs.declared.macroblock.Mb.{Mb};
 ghost use Rattle.h264_types.specs.declared.slice_shape.SliceShape.{SliceShape};
+ghost use Rattle.h264_types.specs.Valid.{is_ref0};
+ghost use Rattle.init_table.specs.declared.table.InitTable.{InitTable};
 ghost use Rattle.pattern_fix.specs.NormalPattern.{IsEmptied};
-ghost use Rattle.slice_rewrite.specs.SliceForms.{PutsWritten};
-ghost use Rattle.slice_rewrite.specs.Written.{written_mb};
+ghost use Rattle.slice_data.specs.Writing.{MayPut};
+ghost use Rattle.slice_rewrite.specs.SliceForms.{PutsWritten, StopsIn};
+ghost use Rattle.slice_data.specs.WrittenForm.{has_ref0, written_mb};
 
-use cavlc_syntax::{CavlcWriter, PutFault};
-use exp_golomb::BitSink;
 use h264_types::validity::is_p_8x8ref0;
-use h264_types::{Case, Mb};
+use h264_types::{Case, Layer, Mb};
 use pattern_fix::normalise;
+use slice_data::{PutFault, SliceWriter};
 use std::alloc::AllocError as Memory;
 
 /// Puts a macroblock in its written form, which it is left in. Some: why it can't be written; it wasn't put.
-pub fn put_written<K: BitSink>(
-    writer: &mut CavlcWriter<K>,
-    mb: &mut Mb,
-) -> Result<Option<Case>, Memory>
-    requires { (IsEmptied mb.old → ⊥) → MayPut K.bits writer.old (written_mb Cavlc mb.old) }
-    ensures { (shape : SliceShape) (before : List Bool) (done : List Mb) → WritesFor K.bits writer.old shape before done → PutsWritten K.bits writer.new shape before done mb.old result }
+pub fn put_written<W: SliceWriter>(writer: &mut W, mb: &mut Mb) -> Result<Option<Case>, Memory>
+    requires levels { StopsIn W.LAYER W.is_beyond }
+    requires next { (IsEmptied mb.old → ⊥) → MayPut W.LAYER W.writes writer.old (written_mb W.LAYER mb.old) }
+    ensures { (init : InitTable) (shape : SliceShape) (before : List Bool) (done : List Mb) → W.writes init writer.old shape before done → PutsWritten (W.writes init) W.LAYER writer.new shape before done mb.old result }
 {
     let Ok(()) = normalise(mb) else {
         return Ok(Some(Case::Empty));
     };
-    mb.ref0 = is_p_8x8ref0(mb);
+    mb.ref0 = is_ref0_in(W::LAYER, mb);
     match writer.put(mb) {
         Ok(()) => Ok(None),
         Err(PutFault::Beyond) => Ok(Some(Case::Level)),
         Err(PutFault::Memory) => Err(Memory),
     }
+}
+
+/// Whether a macroblock in normal form is written as P_8x8ref0, which CABAC hasn't (Table 7-13).
+fn is_ref0_in(to: Layer, mb: &Mb) -> bool
+    ensures { result ≡ (has_ref0 to && is_ref0 mb.now) }
+{
+    matches!(to, Layer::Cavlc) && is_p_8x8ref0(mb)
 }

@@ -1,18 +1,20 @@
 // A slice, read and written macroblock by macroblock.
-ghost use Rattle.std.specs.Prelude.{◌≡◌, ℕ, List, Bool, length, IfOk, IfErr};
+ghost use Rattle.std.specs.Prelude.{[], ℕ, List, Bool, IfOk, IfErr};
 ghost use Rattle.bit_texts.specs.Bits.{bits_of};
-ghost use Rattle.cavlc_syntax.specs.SliceText.{IsBuiltShape};
+ghost use Rattle.h264_types.specs.SliceShape.{IsSliceShape};
 ghost use Rattle.param_sets.specs.Sets.{SetMaps};
-ghost use Rattle.slice_rewrite.specs.SliceForms.{Ends, IsOpened, IsSliceForm, IsSliceRefusal, IsCopy, IsNoCopy};
+ghost use Rattle.init_table.specs.declared.table.InitTable.{InitTable};
+ghost use Rattle.slice_rewrite.specs.SliceForms.{Ends, IsOpened, IsSliceForm, IsSliceRefusal, IsCopy, IsNoCopy, StopsIn};
 
 use crate::fault::RewriteFault;
 use crate::opening::{OpenSlice, open_slice};
 use crate::put::put_written;
 use crate::slice::Written;
 use cavlc_syntax::{CavlcReader, CavlcWriter};
-use exp_golomb::{BitSink, BitSource, BitVec};
+use exp_golomb::BitVec;
 use h264_types::{Case, Layer, Mb, MbKind, SliceShape};
 use param_sets::Sets;
+use slice_data::{SliceReader, SliceWriter};
 use slice_header::write_header_under;
 use std::alloc::Global;
 
@@ -46,7 +48,9 @@ impl OpenSlice<'_> {
     {
         let mut out = BitVec::new(alloc);
         write_header_under(&mut out, &self.active, &self.header, to, number, 0)?;
-        let (out, macroblocks) = copy_data(alloc, self.shape, self.bits, out)?;
+        let reader = CavlcReader::start(alloc, self.shape, self.bits)?;
+        let writer = CavlcWriter::start(alloc, self.shape, out)?;
+        let (out, macroblocks) = copy_data(self.shape, reader, writer)?;
         Ok(Written {
             payload: out.into_bytes(),
             macroblocks,
@@ -54,20 +58,20 @@ impl OpenSlice<'_> {
     }
 }
 
-// Reads the slice data that are left in `bits`, and writes them behind what was put into `out`: macroblock by macroblock,
-// of which none is kept. Behind one that can't be written the rest is read alone.
-fn copy_data<B: BitSource, K: BitSink>(
-    alloc: Global,
+// Reads slice data to their end and writes them again, macroblock by macroblock, of which none is kept: of any layer, for any
+// layer. Behind one that can't be written the rest is read alone.
+fn copy_data<R: SliceReader, W: SliceWriter>(
     shape: SliceShape,
-    bits: B,
-    out: K,
-) -> Result<(K, u32), RewriteFault>
-    requires { IsBuiltShape shape }
-    ensures ok { IfOk result (λ copy. IsCopy shape (length (B.taken bits)) (B.left bits) (K.bits out) (K.bits copy.0) copy.1) }
-    ensures err { IfErr result (IsNoCopy shape (length (B.taken bits)) (B.left bits)) }
+    mut reader: R,
+    mut writer: W,
+) -> Result<(W::Sink, u32), RewriteFault>
+    requires shape { IsSliceShape shape }
+    requires levels { StopsIn W.LAYER W.is_beyond }
+    requires stand { (init : InitTable) × (pos : ℕ) × (left before : List Bool) × R.stands init reader shape pos left [] × W.writes init writer shape before [] }
+    ensures ok { (init : InitTable) (pos : ℕ) (left before : List Bool) → R.stands init reader shape pos left [] → W.writes init writer shape before [] →
+        IfOk result (λ copy. IsCopy R.has_data (R.is_data init) (W.is_data init) W.LAYER shape pos left before (W.Sink.bits copy.0) copy.1) }
+    ensures err { (init : InitTable) (pos : ℕ) (left : List Bool) → R.stands init reader shape pos left [] → IfErr result (IsNoCopy R.has_data (R.is_data init) W.LAYER shape pos left) }
 {
-    let mut reader = CavlcReader::start(alloc, shape, bits)?;
-    let mut writer = CavlcWriter::start(alloc, shape, out)?;
     let mut mb = Mb::without_elements(MbKind::Skip);
     let mut stop = None;
     for count in 0..shape.width * shape.height + 1 {
@@ -85,12 +89,12 @@ fn copy_data<B: BitSource, K: BitSink>(
 }
 
 // The end of the slice data, behind so many macroblocks.
-fn end_data<K: BitSink>(
-    writer: CavlcWriter<K>,
+fn end_data<W: SliceWriter>(
+    writer: W,
     stop: Option<(Case, u32)>,
     count: u32,
-) -> Result<(K, u32), RewriteFault>
-    ensures { Ends K.bits writer stop count result }
+) -> Result<(W::Sink, u32), RewriteFault>
+    ensures { (init : InitTable) → Ends (W.writes init) (W.is_data init) W.Sink.bits writer stop count result }
 {
     match stop {
         Some((case, number)) => Err(RewriteFault::Stop(case, number)),

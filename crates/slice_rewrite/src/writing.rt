@@ -1,18 +1,19 @@
 // A slice, written from the list of its macroblocks.
-ghost use Rattle.std.specs.Prelude.{◌≡◌, ◌<◌, IfOk, IfErr};
-ghost use Rattle.cavlc_syntax.specs.SliceText.{IsBuiltShape};
+ghost use Rattle.std.specs.Prelude.{◌≡◌, ◌<◌, [], Bool, List, IfOk, IfErr};
 ghost use Rattle.h264_types.specs.Valid.{IsSlice};
 ghost use Rattle.h264_types.specs.declared.layer.Layer.TheVariants.{Cavlc};
 ghost use Rattle.header_parts.specs.ActiveSets.{Active};
-ghost use Rattle.slice_rewrite.specs.SliceForms.{coded, IsUnderSets, IsSliceWritten, IsNotWritten, IsDataWritten, IsNoDataWritten};
+ghost use Rattle.init_table.specs.declared.table.InitTable.{InitTable};
+ghost use Rattle.slice_rewrite.specs.SliceForms.{coded, IsUnderSets, IsSliceWritten, IsNotWritten, IsDataWritten, IsNoDataWritten, StopsIn};
 
 use crate::fault::RewriteFault;
 use crate::put::put_written;
 use crate::slice::{How, Slice};
 use cavlc_syntax::CavlcWriter;
-use exp_golomb::{BitSink, BitVec};
+use exp_golomb::BitVec;
 use h264_types::{Mb, SliceShape};
 use param_sets::Sets;
+use slice_data::SliceWriter;
 use slice_header::{sets_of, shape_under, write_header_under};
 use std::alloc::Global;
 
@@ -43,29 +44,29 @@ pub fn write_slice(
         how.idc,
     )?;
     let shape = shape_under(&active, &slice.header);
-    let out = write_data(alloc, shape, &slice.mbs, out)?;
+    let writer = CavlcWriter::start(alloc, shape, out)?;
+    let out = write_data(shape, &slice.mbs, writer)?;
     Ok(out.into_bytes())
 }
 
-// Writes slice data behind what was put into `out`.
-fn write_data<K: BitSink>(
-    alloc: Global,
+// Writes slice data to their end.
+fn write_data<W: SliceWriter>(
     shape: SliceShape,
     mbs: &[Mb],
-    out: K,
-) -> Result<K, RewriteFault>
-    requires shape { IsBuiltShape shape }
+    mut writer: W,
+) -> Result<W::Sink, RewriteFault>
+    requires levels { StopsIn W.LAYER W.is_beyond }
     requires mbs { IsSlice shape mbs.now }
-    ensures ok { IfOk result (λ written. IsDataWritten shape mbs.now (K.bits out) (K.bits written)) }
-    ensures err { IfErr result (IsNoDataWritten shape mbs.now) }
+    requires writes { (init : InitTable) × (before : List Bool) × W.writes init writer shape before [] }
+    ensures ok { (init : InitTable) (before : List Bool) → W.writes init writer shape before [] → IfOk result (λ sink. IsDataWritten (W.is_data init) W.LAYER shape mbs.now before (W.Sink.bits sink)) }
+    ensures err { IfErr result (IsNoDataWritten W.LAYER shape mbs.now) }
 {
-    let mut writer = CavlcWriter::start(alloc, shape, out)?;
     for k in 0..mbs.len() {
         let mut mb = mbs[k];
         if let Some(case) = put_written(&mut writer, &mut mb)? {
             return Err(RewriteFault::Stop(case, k as u32));
         }
     }
-    let out = writer.finish()?;
-    Ok(out)
+    let sink = writer.finish()?;
+    Ok(sink)
 }

@@ -1,42 +1,42 @@
 -- Each macroblock that is given is kept.
-use Rattle.std.proofs.Common.{◌≡◌, ◌+◌, ◌++◌, ◌∷◌, [], Bool, List, length, Ok, sym, ap, ◌∙◌, subst, length-append, arith}
+use Rattle.std.proofs.Common.{◌≡◌, ◌+◌, ◌++◌, ◌∷◌, [], ℕ, Bool, List, length, true, Ok, sym, ap, ◌∙◌, subst, length-append, arith}
 use Rattle.std.proofs.lemmas.Result.{err_from_is_err_and}
-use Rattle.cavlc_syntax.specs.Standing.{place_in, StandsFor, NextGives, step_of}
 use Rattle.h264_types.specs.declared.macroblock.Mb.{Mb}
+use Rattle.init_table.specs.declared.table.InitTable.{InitTable}
+use Rattle.slice_data.specs.Reading.{NextGives, step_of}
 use Rattle.slice_rewrite.proofs.SliceForms.{no_data_read}
 use Rattle.slice_rewrite.proofs.reading.read_data.Goals as goal
 
 pub returns-then-not-more-clause-ok : goal.returns-then-not-more-clause-ok
-returns-then-not-more-clause-ok g c =
-    let at = place_in g.B.BitSource.taken g.B.BitSource.left in
-    let pos = length (g.B.BitSource.taken c.args.bits) in
-    let all = g.B.BitSource.left c.args.bits in
-    let P : Bool → Type 0 = λ b. NextGives at c.next_into.new.self c.args.shape pos all c.loop.mbs.items (step_of c.next_into.new.mb (Ok b)) in
-    let ended = subst P c.if-not-more.true (c.in_ok-more.ensures c.args.shape pos all c.loop.mbs.items c.loop.invariant.stands) in
+returns-then-not-more-clause-ok g c init pos left stood =
+    let R = g.R.SliceReader in
+    let done = c.loop.mbs.items in
+    let P : Bool → Type 0 = λ b. NextGives R.has_data (R.is_data init) (R.stands init) R.left c.next_into.new.self c.args.shape pos left done (step_of c.next_into.new.mb (Ok b)) in
+    let ended = subst P c.if-not-more.true (c.in_ok-more.ensures init c.args.shape pos left done (c.loop.invariant.stands init pos left stood)) in
     (ended.0, ended.1)
 
 pub returns-in_err-more-clause-err : goal.returns-in_err-more-clause-err
-returns-in_err-more-clause-err g c =
-    let pos = length (g.B.BitSource.taken c.args.bits) in
-    let all = g.B.BitSource.left c.args.bits in
-    let p = err_from_is_err_and c.from_residual-in_err-more.result c.from_residual-in_err-more.ensures.1 in
-    rw (p.1, p.2) (no_data_read c.args.shape pos all c.in_err-more.field-0.0 (c.in_err-more.ensures c.args.shape pos all c.loop.mbs.items c.loop.invariant.stands))
+returns-in_err-more-clause-err g c init pos left stood =
+    let R = g.R.SliceReader in
+    let p = err_from_is_err_and c.from_residual.result c.from_residual.ensures.1 in
+    rw (p.1, p.2) (no_data_read R.has_data (R.is_data init) c.args.shape pos left c.in_err-more.field-0.0 (c.in_err-more.ensures init c.args.shape pos left c.loop.mbs.items (c.loop.invariant.stands init pos left stood)))
 
 pub loop-preserved : goal.loop-preserved
 loop-preserved g c =
-    let at = place_in g.B.BitSource.taken g.B.BitSource.left in
-    let pos = length (g.B.BitSource.taken c.args.bits) in
-    let all = g.B.BitSource.left c.args.bits in
+    let R = g.R.SliceReader in
     let done = c.loop.mbs.items in
+    let shape = c.args.shape in
     let mb = c.next_into.new.mb in
-    let P : Bool → Type 0 = λ b. NextGives at c.next_into.new.self c.args.shape pos all done (step_of mb (Ok b)) in
-    let gives = subst P c.if-not-more.false (c.in_ok-more.ensures c.args.shape pos all done c.loop.invariant.stands) in
+    let reads = c.requires.reads in
+    let gives : (init : InitTable) (pos : ℕ) (left : List Bool) (stood : R.stands init c.args.reader shape pos left []) → NextGives R.has_data (R.is_data init) (R.stands init) R.left c.next_into.new.self shape pos left done (step_of mb (Ok true)) = λ init pos left stood.
+    let P : Bool → Type 0 = λ b. NextGives R.has_data (R.is_data init) (R.stands init) R.left c.next_into.new.self shape pos left done (step_of mb (Ok b)) in
+    subst P c.if-not-more.false (c.in_ok-more.ensures init shape pos left done (c.loop.invariant.stands init pos left stood)) in
     let kept = c.in_ok-push.ensures.items in
     let long : length (done ++ mb ∷ []) ≡ length done + 1 = length-append done (mb ∷ []) in
-    let begins = gives.1.begins in
-    let S : List Mb → Type 0 = λ list. StandsFor at c.next_into.new.self c.args.shape pos all list in
+    let begins = (gives reads.0 reads.1 reads.2 reads.3).1.begins in
+    let is = g.met.R.SliceReader.lists_are_slices shape ((done ++ mb ∷ []) ++ begins.0) begins.1 in
     record {
       counted = ap length kept ∙ long ∙ ap (λ n. n + 1) c.loop.invariant.counted;
-      few = rw kept (omega (arith, begins.1.slice.inside, length-append (done ++ mb ∷ []) begins.0));
-      stands = subst S (sym kept) gives.0;
+      few = rw kept (omega (arith, is.inside, length-append (done ++ mb ∷ []) begins.0));
+      stands = λ init pos left stood. let S : List Mb → Type 0 = λ list. R.stands init c.next_into.new.self shape pos left list in subst S (sym kept) (gives init pos left stood).0;
     }

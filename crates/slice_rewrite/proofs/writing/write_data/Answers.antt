@@ -1,12 +1,11 @@
 -- Each macroblock is put behind those before.
-use Rattle.std.proofs.Common.{[], List, false, pos, get_or, map, take, Some, Err, sym, ap, ◌∙◌, subst}
+use Rattle.std.proofs.Common.{[], Bool, List, false, pos, get_or, map, take, Some, Err, sym, ap, ◌∙◌, subst}
 use Rattle.std.proofs.lemmas.List.{map_more}
-use Rattle.cavlc_syntax.specs.Written.{WritesFor}
-use Rattle.h264_types.specs.declared.layer.Layer.TheVariants.{Cavlc}
 use Rattle.h264_types.specs.declared.macroblock.Mb.{Mb}
 use Rattle.h264_types.specs.declared.macroblock.MbKind.TheVariants.{Skip}
-use Rattle.slice_rewrite.specs.Written.{written_mb}
+use Rattle.slice_data.specs.WrittenForm.{written_mb}
 use Rattle.slice_rewrite.proofs.SliceForms.{begins_at}
+use Rattle.slice_rewrite.proofs.Normal.{written-written}
 use Rattle.slice_rewrite.proofs.Stops.{next_front, stops_at}
 use Rattle.slice_rewrite.proofs.writing.write_data.Goals as goal
 
@@ -31,25 +30,33 @@ nothing = record {
   pcm = [];
 }
 
-pub put_written-requires : goal.put_written-requires
-put_written-requires g c kept =
+pub put_written-requires-clause-next : goal.put_written-requires-clause-next
+put_written-requires-clause-next g c kept =
+    let to = g.W.SliceWriter.LAYER in
     let inv = c.loop-k.invariant in
-    (c.args.shape, g.K.BitSink.bits c.args.out, map (written_mb Cavlc) (take c.loop-k.k c.args.mbs.now), inv.writes, begins_at c.args.shape c.args.mbs.now c.loop-k.k _ c.loop-k-test.true c.requires.mbs inv.goes_on kept)
+    let writes = c.requires.writes in
+    (sym (written-written to (get_or c.args.mbs.now c.loop-k.k _)), (writes.0, c.args.shape, writes.1, map (written_mb to) (take c.loop-k.k c.args.mbs.now), inv.writes writes.0 writes.1 writes.2, begins_at to c.args.shape c.args.mbs.now c.loop-k.k _ c.loop-k-test.true c.requires.mbs inv.goes_on kept))
 
 pub returns-in-Some-clause-err : goal.returns-in-Some-clause-err
 returns-in-Some-clause-err g c =
+    let to = g.W.SliceWriter.LAYER in
     let inv = c.loop-k.invariant in
-    let done = map (written_mb Cavlc) (take c.loop-k.k c.args.mbs.now) in
-    let put = c.in_ok-case.ensures c.args.shape (g.K.BitSink.bits c.args.out) done inv.writes in
-    stops_at Cavlc c.args.shape c.args.mbs.now c.loop-k.k nothing c.in-Some.case c.loop-k-test.true inv.goes_on (rw c.in-Some.is at put)
+    let writes = c.requires.writes in
+    let done = map (written_mb to) (take c.loop-k.k c.args.mbs.now) in
+    let put = c.in_ok-case.ensures writes.0 c.args.shape writes.1 done (inv.writes writes.0 writes.1 writes.2) in
+    stops_at to c.args.shape c.args.mbs.now c.loop-k.k nothing c.in-Some.case c.loop-k-test.true inv.goes_on (rw c.in-Some.is at put)
 
 pub loop-k-preserved : goal.loop-k-preserved
 loop-k-preserved g c =
+    let W = g.W.SliceWriter in
+    let to = W.LAYER in
     let inv = c.loop-k.invariant in
-    let out = g.K.BitSink.bits c.args.out in
-    let put = (rw c.in_default.is at c.in_ok-case.ensures) c.args.shape out (map (written_mb Cavlc) (take c.loop-k.k c.args.mbs.now)) inv.writes in
-    let W : List Mb → Type 0 = λ list. WritesFor g.K.BitSink.bits c.put_written.new.writer c.args.shape out list in
+    let writes = c.requires.writes in
+    let done = map (written_mb to) (take c.loop-k.k c.args.mbs.now) in
+    let put = rw c.in_default.is at c.in_ok-case.ensures in
     record {
-      writes = subst W (sym (map_more (written_mb Cavlc) c.args.mbs.now c.loop-k.k _ c.loop-k-test.true)) put.1;
-      goes_on = next_front Cavlc c.args.shape c.args.mbs.now c.loop-k.k _ c.loop-k-test.true inv.goes_on put.0;
+      writes = λ init before wrote.
+          let L : List Mb → Type 0 = λ list. W.writes init c.put_written.new.writer c.args.shape before list in
+          subst L (sym (map_more (written_mb to) c.args.mbs.now c.loop-k.k _ c.loop-k-test.true)) (put init c.args.shape before done (inv.writes init before wrote)).1;
+      goes_on = next_front to c.args.shape c.args.mbs.now c.loop-k.k _ c.loop-k-test.true inv.goes_on (put writes.0 c.args.shape writes.1 done (inv.writes writes.0 writes.1 writes.2)).0;
     }
