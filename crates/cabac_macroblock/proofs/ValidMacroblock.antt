@@ -248,3 +248,28 @@ macroblock_pcm shape done at field bins mb h pcm =
     let spelled = rw (elements_unsent shape done at (of_type field parts.0) is) at parts.5 in
     let number : Intra parts.0 ≡ Intra 25 = named_pcm (Intra parts.0) is in
     sym spelled.1 ∙ ap (λ k. record (of_type field 25) { kind = k }) number
+
+-- ---- I_PCM with its samples
+
+pub pcm_valid : (shape : SliceShape) (samples : List ℕ) → length samples ≡ 384 → All (λ sample. sample ≤ 255) samples → IsSpelled shape (record (of_type false 25) { pcm = samples })
+pcm_valid shape samples count small =
+    let bare : Mb = of_type false 25 in
+    let m : Mb = record bare { pcm = samples } in
+    let sizes = sized false 25 bare refl refl in
+    let inter = no_inter shape false 25 in
+    let residual : IsResidual m = record { luma = zero_luma m; chroma = zero_chroma m; some = λ q h set. absurd cc } in (
+      record {
+        sizes = record { modes = sizes.modes; subs = sizes.subs; refs = sizes.refs; mvd = sizes.mvd; dc = sizes.dc; luma = sizes.luma; chroma_dc = sizes.chroma_dc; chroma_ac = sizes.chroma_ac; pcm = count };
+        typed = record { kind = kind_in shape.kind 25 refl; ref0 = λ set. absurd cc; field = λ set. absurd cc; t8 = λ set. absurd cc };
+        intra = record { modes = λ k h. rw (zero_at 16 k) (omega arith); chroma_mode = omega arith };
+        inter = record { subs = inter.subs; l0 = record { refs = inter.l0.refs; refs_repeat = inter.l0.refs_repeat; mvd = inter.l0.mvd; mvd_repeat = inter.l0.mvd_repeat }; l1 = record { refs = inter.l1.refs; refs_repeat = inter.l1.refs_repeat; mvd = inter.l1.mvd; mvd_repeat = inter.l1.mvd_repeat } };
+        coded = record {
+          pattern = record { luma = omega arith; chroma = omega arith };
+          qp_delta = record { magnitude = omega arith; greatest = omega (arith, ints) };
+          luma = residual.luma;
+          chroma = residual.chroma;
+          pcm = small;
+        };
+      },
+      residual,
+    )
