@@ -1,16 +1,22 @@
 //! The increments of ctxIdx by the neighbours (9.3.3.1.1), worked out by hand.
 ghost use Rattle.std.specs.Prelude.{◌≡◌, ◌<◌, ◌≤◌};
 ghost use Rattle.cabac_contexts.specs.Increments.{IsBlock};
+ghost use Rattle.h264_types.specs.SliceShape.{IsSliceShape};
 
+use crate::rows::rows_of;
 use Beside::{Ac, Dc, Dropped, Full, Large, Pcm, Quarters, Skip, Transformed};
 use cabac_contexts::{
     ctx_inc_block, ctx_inc_chroma, ctx_inc_chroma_mode, ctx_inc_luma, ctx_inc_qp_delta, ctx_inc_t8,
     ctx_inc_type_i,
 };
-use h264_types::{Mb, MbKind, Pattern, SliceKind, SliceShape};
+use h264_types::{Mb, MbKind, Pattern, Rows, SliceKind, SliceShape};
+use std::alloc::{AllocError as Memory, Global};
+use std::test::Fail;
 
-/// Three macroblocks in a row, of which number 4 has number 3 to the left and number 1 above.
+/// Three macroblocks in a row, of which number 7 has number 6 to the left and number 4 above. Number 0 is before the last
+/// two rows then.
 fn shape() -> SliceShape
+    ensures shape { IsSliceShape result }
     ensures width { result.width ≡ 3 }
     ensures height { result.height ≡ 3 }
     ensures first { result.first ≡ 0 }
@@ -37,10 +43,11 @@ fn macroblock(kind: MbKind, luma: u8, chroma: u8) -> Mb {
     mb
 }
 
-/// The four macroblocks before number 4.
-fn before(left: &Mb, above: &Mb) -> [Mb; 4] {
+/// The last two rows before number 7.
+fn before(alloc: Global, left: &Mb, above: &Mb) -> Result<Rows<Mb>, Memory> {
     let skip = Mb::without_elements(MbKind::Skip);
-    [skip, *above, skip, *left]
+    let mbs = [skip, skip, skip, skip, *above, skip, *left];
+    rows_of(alloc, &shape(), &mbs)
 }
 
 /// A macroblock beside the current one.
@@ -99,18 +106,18 @@ fn neighbour(which: Beside) -> Mb {
 }
 
 /// The increments of mb_type, intra_chroma_pred_mode, the transform flag, luma quarter 0, and the first and second bin of chroma.
-fn increments(left: &Mb, above: &Mb) -> [u8; 6] {
-    let done = before(left, above);
+fn increments(alloc: Global, left: &Mb, above: &Mb) -> Result<[u8; 6], Memory> {
+    let done = before(alloc, left, above)?;
     let current = Mb::without_elements(MbKind::Intra(0));
     let shape = shape();
-    [
-        ctx_inc_type_i(&shape, &done, 4, false, &current),
-        ctx_inc_chroma_mode(&shape, &done, 4, false, &current),
-        ctx_inc_t8(&shape, &done, 4, false, &current),
-        ctx_inc_luma(&shape, &done, 4, false, &current, 0),
-        ctx_inc_chroma(&shape, &done, 4, false, &current, false),
-        ctx_inc_chroma(&shape, &done, 4, false, &current, true),
-    ]
+    Ok([
+        ctx_inc_type_i(&shape, &done, 7, false, &current),
+        ctx_inc_chroma_mode(&shape, &done, 7, false, &current),
+        ctx_inc_t8(&shape, &done, 7, false, &current),
+        ctx_inc_luma(&shape, &done, 7, false, &current, 0),
+        ctx_inc_chroma(&shape, &done, 7, false, &current, false),
+        ctx_inc_chroma(&shape, &done, 7, false, &current, true),
+    ])
 }
 
 /// The macroblocks to the left and above, and the increments beside them.
@@ -125,10 +132,12 @@ static BY_KINDS: [(Beside, Beside, [u8; 6]); 7] = [
 ];
 
 #[test]
-fn increments_by_kinds_and_patterns(rt: HostRuntime) {
+fn increments_by_kinds_and_patterns(rt: HostRuntime) -> Result<(), Fail> {
     for (left, above, wanted) in &BY_KINDS {
-        assert!(rt; increments(&neighbour(*left), &neighbour(*above)) == *wanted);
+        let found = increments(rt.alloc(), &neighbour(*left), &neighbour(*above))?;
+        assert!(rt; found == *wanted);
     }
+    Ok(())
 }
 
 /// The bits so far, a quarter, and its increment, where quarter 1 of the left macroblock and quarter 2 of that above have a bit.
@@ -144,44 +153,54 @@ static QUARTERS: [(u8, u8, u8); 8] = [
 ];
 
 #[test]
-fn increments_of_luma_quarters(rt: HostRuntime) {
+fn increments_of_luma_quarters(rt: HostRuntime) -> Result<(), Fail> {
     let left = macroblock(MbKind::Intra(0), 2, 0);
     let above = macroblock(MbKind::Intra(0), 4, 0);
-    let done = before(&left, &above);
     let shape = shape();
+    let done = before(rt.alloc(), &left, &above)?;
+    let none = rows_of(rt.alloc(), &shape, &[])?;
     for (luma, quarter, wanted) in &QUARTERS {
         assert!(rt; *quarter < 4);
         let current = macroblock(MbKind::Intra(0), *luma, 0);
-        let found = ctx_inc_luma(&shape, &done, 4, false, &current, *quarter);
+        let found = ctx_inc_luma(&shape, &done, 7, false, &current, *quarter);
         assert!(rt; found == *wanted);
         // the first macroblock has no neighbours: only its own quarters count
-        assert!(rt; ctx_inc_luma(&shape, &[], 0, false, &current, 0) == 0);
+        assert!(rt; ctx_inc_luma(&shape, &none, 0, false, &current, 0) == 0);
     }
+    Ok(())
 }
 
+/// mb_qp_delta of the two macroblocks before, and the increment.
+static DELTAS: [(i8, i8, u8); 3] = [(0, 0, 0), (1, 0, 0), (1, -26, 1)];
+
 #[test]
-fn increments_of_qp_delta(rt: HostRuntime) {
+fn increments_of_qp_delta(rt: HostRuntime) -> Result<(), Fail> {
     let current = Mb::without_elements(MbKind::Intra(0));
     let shape = shape();
-    assert!(rt; ctx_inc_qp_delta(&shape, &[], 0, false, &current) == 0);
-    let mut done = [current; 2];
-    assert!(rt; ctx_inc_qp_delta(&shape, &done, 2, false, &current) == 0);
-    done[0].qp_delta = 1;
-    assert!(rt; ctx_inc_qp_delta(&shape, &done, 2, false, &current) == 0);
-    done[1].qp_delta = -26;
-    assert!(rt; ctx_inc_qp_delta(&shape, &done, 2, false, &current) == 1);
+    let none = rows_of(rt.alloc(), &shape, &[])?;
+    assert!(rt; ctx_inc_qp_delta(&shape, &none, 0, false, &current) == 0);
+    for (first, second, wanted) in &DELTAS {
+        let mut mbs = [current; 2];
+        mbs[0].qp_delta = *first;
+        mbs[1].qp_delta = *second;
+        let done = rows_of(rt.alloc(), &shape, &mbs)?;
+        assert!(rt; ctx_inc_qp_delta(&shape, &done, 2, false, &current) == *wanted);
+    }
+    Ok(())
 }
 
 /// No neighbours: the flags of an intra macroblock count as 1, of another one as 0.
 #[test]
-fn blocks_without_neighbours(rt: HostRuntime) {
+fn blocks_without_neighbours(rt: HostRuntime) -> Result<(), Fail> {
     let shape = shape();
+    let none = rows_of(rt.alloc(), &shape, &[])?;
     let intra = Mb::without_elements(MbKind::Intra(3));
     let inter = Mb::without_elements(MbKind::P(0));
     for cat in 0..5 {
-        assert!(rt; ctx_inc_block(&shape, &[], 0, false, &intra, cat, 0, 0) == 3);
-        assert!(rt; ctx_inc_block(&shape, &[], 0, false, &inter, cat, 0, 0) == 0);
+        assert!(rt; ctx_inc_block(&shape, &none, 0, false, &intra, cat, 0, 0) == 3);
+        assert!(rt; ctx_inc_block(&shape, &none, 0, false, &inter, cat, 0, 0) == 0);
     }
+    Ok(())
 }
 
 /// The macroblocks to the left and above, the category and the component of a block 0, and its increment.
@@ -205,13 +224,14 @@ static BLOCKS: [(Beside, Beside, u8, u8, u8); 16] = [
 ];
 
 #[test]
-fn blocks_beside_others(rt: HostRuntime) {
+fn blocks_beside_others(rt: HostRuntime) -> Result<(), Fail> {
     let current = Mb::without_elements(MbKind::Intra(0));
     let shape = shape();
     for (left, above, cat, comp, wanted) in &BLOCKS {
-        let done = before(&neighbour(*left), &neighbour(*above));
+        let done = before(rt.alloc(), &neighbour(*left), &neighbour(*above))?;
         assert!(rt; *cat < 5 && *comp < 2);
-        let found = ctx_inc_block(&shape, &done, 4, false, &current, *cat, *comp, 0);
+        let found = ctx_inc_block(&shape, &done, 7, false, &current, *cat, *comp, 0);
         assert!(rt; found == *wanted);
     }
+    Ok(())
 }

@@ -15,6 +15,8 @@ mod intervals;
 #[cfg(test)]
 mod macroblocks;
 #[cfg(test)]
+mod rows;
+#[cfg(test)]
 mod segments;
 #[cfg(test)]
 mod strings;

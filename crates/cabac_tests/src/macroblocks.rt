@@ -1,8 +1,10 @@
 //! Macroblocks of I slices in CABAC (7.3.5): their bins with all contexts, and their bytes.
 ghost use Rattle.std.specs.Prelude.{◌≡◌, ◌*◌, ◌<◌, ◌≤◌, ℕ, false, true, pos, length, replicate, IfOk, IsTrue};
 ghost use Rattle.h264_types.specs.Macroblock.{quarter_of};
+ghost use Rattle.h264_types.specs.SliceShape.{IsSliceShape};
 
 use crate::bins::{Bins, Kind};
+use crate::rows::rows_of;
 use crate::segments::filled;
 use Kind::{Context, End};
 use cabac_contexts::{Contexts, InCoder, OutCoder};
@@ -16,6 +18,8 @@ use std::test::Fail;
 
 /// A slice of one row, in High profile.
 fn row(width: u32) -> SliceShape
+    requires { (1 ≤ width) × (width ≤ 2) }
+    ensures shape { IsSliceShape result }
     ensures width { result.width ≡ width }
     ensures height { result.height ≡ 1 }
     ensures first { result.first ≡ 0 }
@@ -44,7 +48,13 @@ fn has_quarters(mb: &Mb) -> bool
 }
 
 /// Writes macroblock `at` of a slice, or nothing where it is none. It answers whether a bin may follow.
-fn put<S: BinSink>(s: &mut S, shape: &SliceShape, mbs: &[Mb], at: u32) -> Result<bool, Memory>
+fn put<S: BinSink>(
+    alloc: Global,
+    s: &mut S,
+    shape: &SliceShape,
+    mbs: &[Mb],
+    at: u32,
+) -> Result<bool, Memory>
     requires going { S.over s.old ≡ false }
     requires small { length mbs.now ≤ 4 }
     ensures { IfOk result (λ more. more ≡ true → S.over s.new ≡ false) }
@@ -52,7 +62,8 @@ fn put<S: BinSink>(s: &mut S, shape: &SliceShape, mbs: &[Mb], at: u32) -> Result
     if valid(shape, mbs) && (at as usize) < mbs.len() {
         let mb = &mbs[at as usize];
         if mb.kind.is_intra() && has_quarters(mb) {
-            write_macroblock(s, shape, mbs, at, mb)?;
+            let done = rows_of(alloc, shape, &mbs[..at as usize])?;
+            write_macroblock(s, shape, &done, at, mb)?;
             return Ok(!mb.kind.is_i_pcm());
         }
     }
@@ -114,12 +125,13 @@ fn has_bins(
     let shape = row(2);
     let at = mbs.len() as u32 - 1;
     let mut bins = Bins::new(alloc);
-    put(&mut bins, &shape, mbs, at)?;
+    put(alloc, &mut bins, &shape, mbs, at)?;
     let is_known = bins.list.len() == count && bins.begins_and_ends(front, back);
     let mut bins = bins.again();
     let mut read = Mb::without_elements(MbKind::Skip);
-    let done = read_macroblock(&mut bins, &shape, mbs, at, false, &mut read);
-    Ok(is_known && done.is_some() && bins.is_read() && mbs.last() == Some(&read))
+    let done = rows_of(alloc, &shape, &mbs[..at as usize])?;
+    let found = read_macroblock(&mut bins, &shape, &done, at, false, &mut read);
+    Ok(is_known && found.is_some() && bins.is_read() && mbs.last() == Some(&read))
 }
 
 static FLAT_FRONT: [(Kind, bool); 6] = [
@@ -178,7 +190,7 @@ fn flags_of_blocks(rt: HostRuntime) -> Result<(), Fail> {
     // the macroblock, and the context of the flag of Cb's DC levels: without a neighbour, and beside levels of Cr alone
     for (at, cb) in [(0, 100), (1, 99)] {
         let mut bins = Bins::new(rt.alloc());
-        put(&mut bins, &row(2), &[blocks(), blocks()], at)?;
+        put(rt.alloc(), &mut bins, &row(2), &[blocks(), blocks()], at)?;
         let expected = [
             (95, true),
             (96, false),
@@ -196,7 +208,7 @@ fn flags_of_blocks(rt: HostRuntime) -> Result<(), Fail> {
 fn segment_of(alloc: Global, init: &InitTable, mb: &Mb) -> Result<Option<Vec<u8>>, Memory> {
     let encoder = Encoder::start(alloc, BitVec::new(alloc));
     let mut coder = OutCoder::new(Contexts::start(init, 26, 0), encoder);
-    if !put(&mut coder, &row(1), &[*mb], 0)? {
+    if !put(alloc, &mut coder, &row(1), &[*mb], 0)? {
         return Ok(None);
     }
     coder.end(true)?;
@@ -205,13 +217,18 @@ fn segment_of(alloc: Global, init: &InitTable, mb: &Mb) -> Result<Option<Vec<u8>
 }
 
 /// The macroblock that such bytes hold.
-fn read_back(init: &InitTable, bytes: &[u8]) -> Option<Mb> {
-    let decoder = Decoder::start(SliceBits::new(bytes)).ok()?;
+fn read_back(alloc: Global, init: &InitTable, bytes: &[u8]) -> Result<Option<Mb>, Memory> {
+    let Ok(decoder) = Decoder::start(SliceBits::new(bytes)) else {
+        return Ok(None);
+    };
     let mut coder = InCoder::new(Contexts::start(init, 26, 0), decoder);
+    let none = rows_of(alloc, &row(1), &[])?;
     let mut read = Mb::without_elements(MbKind::Skip);
-    read_macroblock(&mut coder, &row(1), &[], 0, false, &mut read)?;
+    if read_macroblock(&mut coder, &row(1), &none, 0, false, &mut read).is_none() {
+        return Ok(None);
+    }
     let (_contexts, _bits) = coder.into_parts();
-    Some(read)
+    Ok(Some(read))
 }
 
 /// A macroblock has a segment that begins with these bytes, and comes back from it.
@@ -220,7 +237,7 @@ fn comes_back(alloc: Global, init: &InitTable, mb: &Mb, known: &[u8]) -> Result<
         return Ok(false);
     };
     let bytes = bytes.as_slice();
-    Ok(bytes.starts_with(known) && read_back(init, bytes) == Some(*mb))
+    Ok(bytes.starts_with(known) && read_back(alloc, init, bytes)? == Some(*mb))
 }
 
 /// With contexts that all start in state 0. The bytes are known of the first one alone.
