@@ -5,8 +5,7 @@ use Rattle.header_parts.specs.SliceTypes.{is_i}
 use Rattle.std.proofs.lemmas.Bool.{eqb-true}
 use Rattle.bit_texts.specs.Bits.{bits_of, bytes_of}
 use Rattle.bit_texts.proofs.Bytes.{bits_of-bytes_of}
-use Rattle.h264_types.specs.Sizes.{HasSizes}
-use Rattle.cavlc_syntax.specs.SliceText.{IsBuilt, IsNotBeyond, HasText, slice_text}
+use Rattle.cavlc_syntax.specs.SliceText.{IsNotBeyond, HasText, slice_text}
 use Rattle.cavlc_syntax.proofs.Texts.{lists_of_both, slice_fills, slice_stops}
 use Rattle.exp_golomb.specs.EmulationPrevention.{IsEscape, HasEscape, escaped}
 use Rattle.exp_golomb.specs.Syntax.{Found, Spells}
@@ -15,8 +14,7 @@ use Rattle.h264_types.specs.declared.layer.Layer.{Layer}
 use Rattle.h264_types.specs.declared.layer.Layer.TheVariants.{Cavlc, Cabac}
 use Rattle.h264_types.specs.declared.macroblock.Mb.{Mb}
 use Rattle.h264_types.specs.declared.slice_shape.SliceShape.{SliceShape}
-use Rattle.h264_types.specs.Valid.{IsMacroblock, IsListSent, IsSlice as AreMacroblocks}
-use Rattle.std.proofs.lemmas.List.Elements.{All-weaker, All-map}
+use Rattle.std.proofs.lemmas.List.Elements.{All-map}
 use Rattle.annexb_units.proofs.Closed.{IsClosed-unit, EndsNonzero-unit}
 use Rattle.param_sets.specs.PpsCodes.{IsPps, mode_flag_of, pps_in, pps_text, pps_fields_text}
 use Rattle.param_sets.specs.Sets.{SetMaps, find_pps, find_sps, sps_put, pps_put}
@@ -48,7 +46,7 @@ use Rattle.slice_rewrite.specs.View.{IsWritable}
 use Rattle.slice_rewrite.specs.Written.{sps_unit, pps_unit, slice_in, slice_bits, slice_unit}
 use Rattle.slice_data.specs.WrittenForm.{written_mb}
 use Rattle.slice_rewrite.proofs.Normal.{slice_written}
-use Rattle.slice_rewrite.proofs.Slices.{fit, not_unbuilt, names-once}
+use Rattle.slice_rewrite.proofs.Slices.{fit, names-once}
 use Rattle.slice_rewrite.proofs.Stops.{all_go, goes_within, none_emptied}
 use Rattle.slice_rewrite.proofs.Splitting.{Fits}
 

@@ -1,6 +1,6 @@
 -- Macroblocks in their written form.
 use Rattle.std.proofs.Common.{◌≡◌, ◌≢◌, ℕ, zero, suc, ◌+◌, ◌*◌, ◌/◌, ◌<◌, ℤ, pos, Bool, true, false, not, ◌&&◌, List, [], ◌∷◌, ◌++◌, length, get_or, map, Option, Some, None, refl, sym, ap, subst, ◌∙◌, arith, append-nil, length-append}
-use Rattle.std.specs.Prelude.{◌||◌, ◌↔◌, IsTrue, All, ◌==◌, if◌then◌else◌}
+use Rattle.std.specs.Prelude.{◌↔◌, IsTrue, All, ◌==◌, if◌then◌else◌}
 use Rattle.std.specs.Int.{bit_at}
 use Rattle.std.specs.Ordering.{int_eq}
 use Rattle.std.proofs.lemmas.Bool.{eqb-true}
@@ -10,7 +10,6 @@ use Rattle.std.proofs.lemmas.List.{length-map}
 use Rattle.h264_types.specs.Sizes.{HasSizes}
 use Rattle.cavlc_mb_residual.specs.MacroblockResidual.{is_beyond_mb}
 use Rattle.h264_types.specs.declared.layer.Layer.{Layer}
-use Rattle.h264_types.specs.declared.layer.Layer.TheVariants.{Cavlc}
 use Rattle.h264_types.specs.declared.macroblock.Mb.{Mb}
 use Rattle.h264_types.specs.declared.macroblock.MbKind.{MbKind}
 use Rattle.h264_types.specs.declared.macroblock.MbKind.TheVariants.{Skip, Intra, P as PKind, B as BKind}

@@ -4,7 +4,6 @@ use Rattle.std.specs.Prelude.{◌||◌, All, Result, Ok, Err, IfOk, IfErr}
 use Rattle.std.proofs.lemmas.List.{map-append, take_more, take-append-drop}
 use Rattle.bit_texts.specs.Bits.{bits_of}
 use Rattle.bit_texts.specs.Texts.{Appended}
-use Rattle.h264_types.specs.Sizes.{HasSizes}
 use Rattle.cavlc_syntax.specs.SliceText.{IsBuiltShape, HasText, IsText, slice_text, NoList as NoText}
 use Rattle.h264_types.specs.Valid.{IsSlice}
 use Rattle.cavlc_syntax.proofs.Texts.{slice_of_both, slice_fills}
@@ -21,7 +20,7 @@ use Rattle.param_sets.specs.PpsCodes.{mode_flag_of}
 use Rattle.param_sets.specs.Sets.{SetMaps}
 use Rattle.param_sets.specs.SpsCodes.{IsSps}
 use Rattle.pattern_fix.specs.NormalPattern.{IsEmptied}
-use Rattle.slice_header.specs.HeaderCodes.{HeaderFits, HeaderText, IsUnder, Names, ReadsHeader, active_in, header_in, header_text, unconstrained}
+use Rattle.slice_header.specs.HeaderCodes.{HeaderFits, HeaderText, Names, ReadsHeader, active_in, header_in, header_text, unconstrained}
 use Rattle.header_parts.specs.Refusal.{OutsideProfile, NoPps, NoSps}
 use Rattle.slice_header.specs.Shape.{shape_of}
 use Rattle.header_parts.specs.ActiveSets.{Active}

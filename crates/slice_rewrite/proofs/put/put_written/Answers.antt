@@ -1,5 +1,5 @@
 -- The macroblock that is put is the written form of the one that is lent.
-use Rattle.std.proofs.Common.{◌≡◌, ◌++◌, ◌∷◌, [], Bool, false, true, ◌&&◌, Err, sym, ap, subst, ◌∙◌}
+use Rattle.std.proofs.Common.{◌≡◌, ◌++◌, ◌∷◌, [], false, true, ◌&&◌, Err, sym, ap, subst, ◌∙◌}
 use Rattle.std.proofs.lemmas.Bool.{false≢true}
 use Rattle.h264_types.specs.Valid.{is_ref0}
 use Rattle.h264_types.specs.declared.macroblock.Mb.{Mb}

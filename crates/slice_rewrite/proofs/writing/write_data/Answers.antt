@@ -1,5 +1,5 @@
 -- Each macroblock is put behind those before.
-use Rattle.std.proofs.Common.{[], Bool, List, false, pos, get_or, map, take, Some, Err, sym, ap, ◌∙◌, subst}
+use Rattle.std.proofs.Common.{[], List, false, pos, get_or, map, take, sym, subst}
 use Rattle.std.proofs.lemmas.List.{map_more}
 use Rattle.h264_types.specs.declared.macroblock.Mb.{Mb}
 use Rattle.h264_types.specs.declared.macroblock.MbKind.TheVariants.{Skip}

@@ -1,6 +1,5 @@
 use Rattle.std.proofs.Common.{◌≡◌, List, map, refl, subst}
 use Rattle.cavlc_syntax.specs.SliceText.{IsText}
-use Rattle.std.proofs.lemmas.Result.{err_from_is_err_and}
 use Rattle.header_parts.specs.ActiveSets.{Active, active_view}
 use Rattle.h264_types.specs.declared.layer.Layer.TheVariants.{Cavlc}
 use Rattle.h264_types.specs.declared.macroblock.Mb.{Mb}
@@ -8,9 +7,9 @@ use Rattle.param_sets.specs.SpsCodes.{IsSps}
 use Rattle.bit_texts.specs.Texts.{Appended}
 use Rattle.slice_header.specs.HeaderCodes.{active_in, header_in, header_text}
 use Rattle.slice_header.specs.Shape.{shape_of}
-use Rattle.slice_rewrite.specs.SliceForms.{IsDataWritten, IsNoDataWritten}
+use Rattle.slice_rewrite.specs.SliceForms.{IsDataWritten}
 use Rattle.slice_data.specs.WrittenForm.{written_mb}
-use Rattle.slice_rewrite.proofs.SliceForms.{any_table, under_named, under_built, data_fills, slice_put, slice_not_put}
+use Rattle.slice_rewrite.proofs.SliceForms.{any_table, under_named, under_built, data_fills, slice_put}
 use Rattle.slice_rewrite.proofs.writing.write_slice.Goals as goal
 
 pub start-requires : goal.start-requires
