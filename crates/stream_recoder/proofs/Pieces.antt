@@ -1,12 +1,11 @@
 -- A piece fed to a recoder.
-use Rattle.std.proofs.Common.{◌≡◌, ℕ, List, [], ◌∷◌, ◌++◌, sym, ap, subst, ◌∙◌, append-nil}
+use Rattle.std.proofs.Common.{◌≡◌, ℕ, List, [], ◌++◌, sym, ap, subst, ◌∙◌, append-nil}
 use Rattle.std.specs.Prelude.{Option, Some, None, Result, Ok, Err, OnOk}
 use Rattle.h264_types.specs.declared.fault.Why.{Why}
 use Rattle.h264_types.specs.declared.fault.Stopped.{Stopped}
 use Rattle.h264_types.specs.declared.fault.Stopped.TheVariants.{Stop, Outside, Memory}
-use Rattle.h264_types.specs.Units.{seen, seen_whole}
+use Rattle.h264_types.specs.Units.{seen}
 use Rattle.h264_types.proofs.Stays.{seen-stays}
-use Rattle.annexb_units.specs.declared.splitter.Splitter.{Splitter}
 use Rattle.annexb_units.specs.Splitter.{Feeds, ShowsNone, Shows}
 use Rattle.slice_rewrite.specs.declared.plan.Plan.{Plan}
 use Rattle.stream_recoder.specs.declared.recoder.Recoder.{Recoder}

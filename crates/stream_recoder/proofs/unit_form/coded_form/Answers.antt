@@ -1,4 +1,4 @@
-use Rattle.std.proofs.Common.{◌∙◌, ◌∷◌, ap, sym, List, ℕ, subst}
+use Rattle.std.proofs.Common.{◌∙◌, ◌∷◌, ap, List, ℕ, subst}
 use Rattle.std.proofs.lemmas.Result.{err_from_is_err_and}
 use Rattle.bit_texts.specs.Bits.{bits_of, bytes_of}
 use Rattle.exp_golomb.specs.EmulationPrevention.{escaped}
