@@ -1,0 +1,10 @@
+pub mod CodeParts
+pub mod KnowsLaws
+pub mod MacroblockLaws
+pub mod Samples
+pub mod EndLaws
+pub mod Filling
+pub mod StandsLaws
+pub mod ReaderLaws
+pub mod WroteLaws
+pub mod PutLaws

@@ -1,0 +1,4 @@
+pub mod SliceData
+pub mod Kept
+pub mod Standing
+pub mod Written
