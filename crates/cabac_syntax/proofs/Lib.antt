@@ -8,3 +8,4 @@ pub mod StandsLaws
 pub mod ReaderLaws
 pub mod WroteLaws
 pub mod PutLaws
+pub mod DataLaws

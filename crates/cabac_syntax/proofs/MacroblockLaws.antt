@@ -28,7 +28,7 @@ use Rattle.cabac_syntax.proofs.KnowsLaws.{know_step, know_same, know_none}
 abbrev pub bins_behind : SliceShape → List Mb → BinString Mb
 bins_behind shape done = macroblock_i shape done (length done) false
 
-one_string : (shape : SliceShape) (done : List Mb) → HasOneString (bins_behind shape done)
+pub one_string : (shape : SliceShape) (done : List Mb) → HasOneString (bins_behind shape done)
 one_string shape done = macroblock_one shape done (length done) false (λ m. residual_one shape done (length done) (without_levels m) (sized-none m))
 
 -- what a macroblock's bins spell, but for its samples, is what was read

@@ -19,6 +19,8 @@ mod rows;
 #[cfg(test)]
 mod segments;
 #[cfg(test)]
+mod slices;
+#[cfg(test)]
 mod strings;
 #[cfg(test)]
 mod vectors;
