@@ -1,14 +1,14 @@
 -- What data of a slice are, whatever their list.
 use Rattle.std.proofs.Common.{◌≡◌, ℕ, ◌+◌, ◌-◌, ◌*◌, ◌%◌, ◌<◌, Bool, true, false, List, [], ◌∷◌, ◌++◌, length, map, replicate, refl, sym, ap, subst, ◌∙◌, append_assoc, append-nil, length-append, arith}
 use Rattle.std.proofs.lemmas.List.{length-replicate}
-use Rattle.bit_texts.specs.Bits.{bits_of, EndsInOne}
+use Rattle.bit_texts.specs.Bits.{bits_of}
 use Rattle.bit_texts.proofs.Bytes.{length-bits_of}
 use Rattle.cabac_interval.proofs.Lists.{same_closing}
 use Rattle.cabac_contexts.specs.States.{state_of, with_states}
 use Rattle.h264_types.specs.declared.macroblock.Mb.{Mb}
 use Rattle.h264_types.specs.declared.slice_shape.SliceShape.{SliceShape}
 use Rattle.pcm_samples.specs.Alignment.{alignment}
-use Rattle.cabac_syntax.specs.SliceData.{Bin, Piece, coded, sampled, AreDataFrom, ArePieces, Begins, flag_behind, samples_of, ones, Codes}
+use Rattle.cabac_syntax.specs.SliceData.{Bin, Piece, coded, sampled, AreDataFrom, ArePieces, flag_behind, samples_of, ones, Codes}
 use Rattle.cabac_syntax.proofs.MacroblockLaws.{one_string}
 
 -- ---- the normal form
@@ -30,7 +30,7 @@ one_pieces shape before (mb ∷ mbs) pieces others (first, rest, e, begins, are)
     let bins : begins.0 ≡ begins'.0 = one_string shape before begins.0 begins'.0 _ begins.1 begins'.1 in
     let behind : rest ≡ rest' = one_pieces shape (before ++ mb ∷ []) mbs rest rest' are are' in
     e ∙ ap (λ (l : List Piece). flag_behind before ++ l)
-        (begins.2 ∙ ap (λ (l : List Bin). map coded l ++ (samples_of mb ++ rest)) bins ∙ ap (λ (l : List Piece). map coded begins'.0 ++ (samples_of mb ++ l)) behind ∙ sym begins'.2) ∙ sym e'
+    (begins.2 ∙ ap (λ (l : List Bin). map coded l ++ (samples_of mb ++ rest)) bins ∙ ap (λ (l : List Piece). map coded begins'.0 ++ (samples_of mb ++ l)) behind ∙ sym begins'.2) ∙ sym e'
 
 one_codes : (start : ℕ → ℕ × Bool) (earlier current : List Bin) (pieces : List Piece) (bits others : List Bool) → Codes true start earlier current pieces bits → Codes true start earlier current pieces others → bits ≡ others
 unfolding Codes

@@ -88,7 +88,7 @@ record Next (start : ℕ → ℕ × Bool) (shape : SliceShape) (done : List Mb) 
 pub one_sampled : (mb : Mb) (rest : List Piece) → is_i_pcm mb.kind ≡ true → samples_of mb ++ rest ≡ sampled mb.pcm ∷ rest
 one_sampled mb rest pcm = rw pcm refl
 
-samples_in : (shape : SliceShape) (mb : Mb) → IsMacroblock shape mb → is_i_pcm mb.kind ≡ true → AreSamples mb.pcm
+pub samples_in : (shape : SliceShape) (mb : Mb) → IsMacroblock shape mb → is_i_pcm mb.kind ≡ true → AreSamples mb.pcm
 samples_in shape mb is pcm =
     let bound : sample_bound mb.kind ≡ 255 = rw pcm refl in
     record { count = is.sizes.pcm; bytes = λ k d below. let few = is.coded.pcm k d below in omega (arith, few, bound) }

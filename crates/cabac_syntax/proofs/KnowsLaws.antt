@@ -67,7 +67,7 @@ pub gives_one : (d e : InCoding) (slot : Slot) (bit : Bool) → GivesBin d slot 
 gives_one d e slot bit step = (e, step, refl)
 
 -- behind macroblocks the pieces begin with a flag
-behind_more : (done : List Mb) → 0 < length done → flag_behind done ≡ coded (at_end, false) ∷ []
+pub behind_more : (done : List Mb) → 0 < length done → flag_behind done ≡ coded (at_end, false) ∷ []
 behind_more [] some = absurd (omega arith)
 behind_more (mb ∷ done) some = refl
 
@@ -76,7 +76,7 @@ abbrev pub flag_of : List Mb → Bool
 flag_of [] = true
 flag_of (mb ∷ tail) = false
 
-flagged : (shape : SliceShape) (done tail : List Mb) (pieces : List Piece) → 0 < length done → ArePieces shape done tail pieces → (rest : List Piece) × (pieces ≡ coded (at_end, flag_of tail) ∷ rest)
+pub flagged : (shape : SliceShape) (done tail : List Mb) (pieces : List Piece) → 0 < length done → ArePieces shape done tail pieces → (rest : List Piece) × (pieces ≡ coded (at_end, flag_of tail) ∷ rest)
 unfolding ArePieces
 flagged shape done [] pieces some are = ([], are)
 flagged shape done (mb ∷ tail) pieces some (first, rest, e, begins, others) = (first, e ∙ ap (λ (l : List Piece). l ++ first) (behind_more done some))

@@ -9,3 +9,4 @@ pub mod ReaderLaws
 pub mod WroteLaws
 pub mod PutLaws
 pub mod DataLaws
+pub mod OneList

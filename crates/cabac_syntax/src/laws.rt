@@ -1,10 +1,15 @@
-//! What the layers above rest on: data in normal form are data, and are those of their list alone; data fill bytes, and in
+//! What the layers above rest on: data are those of one list, and in normal form the only ones of it; data fill bytes, and in
 //! normal form end in the stop bit.
 ghost use Rattle.std.specs.Prelude.{◌≡◌, ◌+◌, ◌%◌, ◌<◌, ◌∷◌, ◌++◌, ℕ, Bool, true, false, List, length, replicate};
 ghost use Rattle.h264_types.specs.declared.macroblock.Mb.{Mb};
 ghost use Rattle.h264_types.specs.declared.slice_shape.SliceShape.{SliceShape};
 ghost use Rattle.init_table.specs.declared.table.InitTable.{InitTable};
-ghost use Rattle.cabac_syntax.specs.SliceData.{IsData, IsNormalData};
+ghost use Rattle.cabac_syntax.specs.SliceData.{HasData, IsData, IsNormalData};
+
+/// No bits are the data of two lists.
+pub fn one_list()
+    ensures { (init : InitTable) (shape : SliceShape) (pos : ℕ) (first second : List Mb) (bits : List Bool) → HasData shape first → HasData shape second → IsData init shape pos first bits → IsData init shape pos second bits → first ≡ second }
+{}
 
 /// What is written is read as data of the same list.
 pub fn normal_data_are_data()
