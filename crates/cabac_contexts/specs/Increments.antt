@@ -2,8 +2,8 @@
 -- condTermFlagB.
 --
 -- An element that a macroblock doesn't send is 0 in it (h264_types, IsMacroblock): a skipped macroblock and I_PCM have no
--- mb_qp_delta, an inter macroblock no intra_chroma_pred_mode, and one without transform_size_8x8_flag has none set. So the
--- definitions ask for the value alone where the standard also asks whether it was sent.
+-- mb_qp_delta, and one without transform_size_8x8_flag has none set. So the definitions of these two ask for the value alone
+-- where the standard also asks whether it was sent.
 use Rattle.std.specs.Prelude.{◌≡◌, ℕ, ◌+◌, ◌-◌, ◌*◌, ◌<◌, ◌==◌, Bool, false, not, if◌then◌else◌, pos, List, slice_get}
 use Rattle.std.specs.Int.{from_bool}
 use Rattle.std.specs.Option.{option_map_or}

@@ -1,10 +1,11 @@
 -- condTermFlagA and condTermFlagB (9.3.3.1.1): what the macroblocks and blocks to the left and above say of a bin's context.
--- `done` is the list of the slice's macroblocks before number `at`, which is `mb`, as far as it was read.
-use Rattle.std.specs.Prelude.{ℕ, ◌/◌, ◌<◌, ◌==◌, Bool, not, ◌&&◌, ◌||◌, if◌then◌else◌, ℤ, pos, List, [], slice_get, slice_index_or, Option, Some, None}
+-- `done` is the list of the slice's macroblocks, at least those before number `at`, which is `mb`, as far as it was read.
+use Rattle.std.specs.Prelude.{ℕ, ◌/◌, ◌<◌, ◌≤◌, ◌==◌, Bool, not, ◌&&◌, ◌||◌, if◌then◌else◌, ℤ, pos, List, [], length, slice_get, slice_index_or, Option, Some, None}
 use Rattle.std.specs.Int.{bit_at}
 use Rattle.std.specs.List.{list_any}
 use Rattle.std.specs.Option.{option_map_or}
 use Rattle.std.specs.Ordering.{int_eq}
+use Rattle.h264_types.specs.LastRows.{LastRows, StandsAt}
 use Rattle.h264_types.specs.Kind.{is_intra, is_i_nxn, is_i_16x16, is_i_pcm, is_skip}
 use Rattle.h264_types.specs.Macroblock.{luma_block, pattern_of}
 use Rattle.h264_types.specs.declared.macroblock.Mb.{Mb}
@@ -14,6 +15,11 @@ use Rattle.mb_neighbours.specs.declared.place.At.{At}
 use Rattle.mb_neighbours.specs.declared.place.Spot.{Spot}
 use Rattle.cabac_contexts.specs.declared.term.Term.{Term}
 use Rattle.cabac_contexts.specs.declared.term.Term.TheVariants.{OtherType, ChromaMode, Transform8, NoLuma, Chroma, ChromaAc, LumaDcFlag, LumaFlag, ChromaDcFlag, ChromaAcFlag}
+
+-- Macroblock `at` of the slice may be read or written behind `mbs`, of which these are the last two rows: all before it are
+-- done, in MBAFF the top of its pair too where it is the bottom.
+abbrev pub IsReadAt : SliceShape → LastRows Mb → List Mb → ℕ → Type 0
+IsReadAt shape rows mbs at = StandsAt (λ mb. mb) shape rows mbs at × (at ≤ length mbs)
 
 -- the pattern has a bit for a luma quarter
 abbrev pub has_luma : Mb → ℕ → Bool

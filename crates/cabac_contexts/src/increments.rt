@@ -1,9 +1,8 @@
 ghost use Rattle.std.specs.Prelude.{◌≡◌, ◌<◌, ◌≤◌, List};
-ghost use Rattle.h264_types.specs.LastRows.{StandsAt};
 ghost use Rattle.h264_types.specs.declared.macroblock.Mb.{Mb};
 ghost use Rattle.h264_types.specs.Slice.{IsInPicture};
 ghost use Rattle.mb_neighbours.specs.Place.{IsPlace, count_of};
-ghost use Rattle.cabac_contexts.specs.Terms.{HasComponent, blocks_of};
+ghost use Rattle.cabac_contexts.specs.Terms.{HasComponent, IsReadAt, blocks_of};
 ghost use Rattle.cabac_contexts.specs.Increments as inc;
 
 use crate::term::{Term, flags};
@@ -12,12 +11,12 @@ use mb_neighbours::At;
 
 /// The increment of the first bin of mb_type in an I slice, 0 to 2 (9.3.3.1.1.3).
 ///
-/// For this call and those below: `done` has the last two rows of the slice's macroblocks, of which number `at` is the next
-/// one or the last one, in MBAFF in the pair of one of them; `mb` is number `at` as far as it was read; `field` is its pair
+/// For this call and those below: `done` has the last two rows of the slice's macroblocks, of which all before number `at`
+/// are done and none behind it, in MBAFF none behind its pair; `mb` is number `at` as far as it was read; `field` is its pair
 /// flag, false outside MBAFF.
 pub fn ctx_inc_type_i(shape: &SliceShape, done: &Rows<Mb>, at: u32, field: bool, mb: &Mb) -> u8
     requires picture { IsInPicture shape.now at }
-    ensures value { (mbs : List Mb) → StandsAt (λ mb. mb) shape.now done.now mbs at → result ≡ inc.type_i shape.now mbs at field mb.now }
+    ensures value { (mbs : List Mb) → IsReadAt shape.now done.now mbs at → result ≡ inc.type_i shape.now mbs at field mb.now }
     ensures bound { result < 3 }
 {
     let place = At::Whole;
@@ -27,7 +26,7 @@ pub fn ctx_inc_type_i(shape: &SliceShape, done: &Rows<Mb>, at: u32, field: bool,
 /// The increment of the first bin of intra_chroma_pred_mode, 0 to 2 (9.3.3.1.1.8).
 pub fn ctx_inc_chroma_mode(shape: &SliceShape, done: &Rows<Mb>, at: u32, field: bool, mb: &Mb) -> u8
     requires picture { IsInPicture shape.now at }
-    ensures value { (mbs : List Mb) → StandsAt (λ mb. mb) shape.now done.now mbs at → result ≡ inc.chroma_mode shape.now mbs at field mb.now }
+    ensures value { (mbs : List Mb) → IsReadAt shape.now done.now mbs at → result ≡ inc.chroma_mode shape.now mbs at field mb.now }
     ensures bound { result < 3 }
 {
     let place = At::Whole;
@@ -37,7 +36,7 @@ pub fn ctx_inc_chroma_mode(shape: &SliceShape, done: &Rows<Mb>, at: u32, field: 
 /// The increment of the first bin of mb_qp_delta, 0 or 1: whether the macroblock before in the slice sent an
 /// mb_qp_delta other than 0 (9.3.3.1.1.5).
 pub fn ctx_inc_qp_delta(_shape: &SliceShape, done: &Rows<Mb>, at: u32, _field: bool, _mb: &Mb) -> u8
-    ensures value { (mbs : List Mb) → StandsAt (λ mb. mb) _shape.now done.now mbs at → result ≡ inc.qp_delta mbs at }
+    ensures value { (mbs : List Mb) → IsReadAt _shape.now done.now mbs at → result ≡ inc.qp_delta mbs at }
     ensures bound { result < 2 }
 {
     let Some(number) = at.checked_sub(1) else {
@@ -49,7 +48,7 @@ pub fn ctx_inc_qp_delta(_shape: &SliceShape, done: &Rows<Mb>, at: u32, _field: b
 /// The increment of transform_size_8x8_flag, 0 to 2 (9.3.3.1.1.10).
 pub fn ctx_inc_t8(shape: &SliceShape, done: &Rows<Mb>, at: u32, field: bool, mb: &Mb) -> u8
     requires picture { IsInPicture shape.now at }
-    ensures value { (mbs : List Mb) → StandsAt (λ mb. mb) shape.now done.now mbs at → result ≡ inc.t8 shape.now mbs at field mb.now }
+    ensures value { (mbs : List Mb) → IsReadAt shape.now done.now mbs at → result ≡ inc.t8 shape.now mbs at field mb.now }
     ensures bound { result < 3 }
 {
     let place = At::Whole;
@@ -68,7 +67,7 @@ pub fn ctx_inc_luma(
 ) -> u8
     requires picture { IsInPicture shape.now at }
     requires quarter { quarter < 4 }
-    ensures value { (mbs : List Mb) → StandsAt (λ mb. mb) shape.now done.now mbs at → result ≡ inc.luma shape.now mbs at field mb.now quarter }
+    ensures value { (mbs : List Mb) → IsReadAt shape.now done.now mbs at → result ≡ inc.luma shape.now mbs at field mb.now quarter }
     ensures bound { result < 4 }
 {
     let place = At::Luma8(quarter);
@@ -85,7 +84,7 @@ pub fn ctx_inc_chroma(
     second: bool,
 ) -> u8
     requires picture { IsInPicture shape.now at }
-    ensures value { (mbs : List Mb) → StandsAt (λ mb. mb) shape.now done.now mbs at → result ≡ inc.chroma shape.now mbs at field mb.now second }
+    ensures value { (mbs : List Mb) → IsReadAt shape.now done.now mbs at → result ≡ inc.chroma shape.now mbs at field mb.now second }
     ensures bound { result < 4 }
 {
     let term = if second { Term::ChromaAc } else { Term::Chroma };
@@ -107,7 +106,7 @@ pub fn ctx_inc_block(
 ) -> u8
     requires picture { IsInPicture shape.now at }
     requires block { inc.IsBlock cat comp block }
-    ensures value { (mbs : List Mb) → StandsAt (λ mb. mb) shape.now done.now mbs at → result ≡ inc.coded_block shape.now mbs at field mb.now cat comp block }
+    ensures value { (mbs : List Mb) → IsReadAt shape.now done.now mbs at → result ≡ inc.coded_block shape.now mbs at field mb.now cat comp block }
     ensures bound { result < 4 }
 {
     let (place, term) = block_place(cat, comp, block);

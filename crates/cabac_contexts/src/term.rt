@@ -1,11 +1,11 @@
 // What neighbouring macroblocks and blocks say of a bin's context (9.3.3.1.1).
 ghost use Rattle.std.specs.Prelude.{◌≡◌, ◌<◌, ◌≤◌, List, IfSome};
-ghost use Rattle.h264_types.specs.LastRows.{AreRows, IsRecent, StandsAt};
+ghost use Rattle.h264_types.specs.LastRows.{AreRows, IsRecent};
 ghost use Rattle.h264_types.specs.declared.macroblock.Mb.{Mb};
 ghost use Rattle.h264_types.specs.declared.slice_shape.SliceShape.{SliceShape};
 ghost use Rattle.h264_types.specs.Slice.{IsInPicture};
 ghost use Rattle.mb_neighbours.specs.Place.{IsPlace, count_of};
-ghost use Rattle.cabac_contexts.specs.Terms.{HasComponent, blocks_of, has_level, has_luma, term_of, flag_at, flag_a, flag_b};
+ghost use Rattle.cabac_contexts.specs.Terms.{HasComponent, IsReadAt, blocks_of, has_level, has_luma, term_of, flag_at, flag_a, flag_b};
 
 use h264_types::{Mb, Rows, SliceShape};
 use mb_neighbours::{At, Spot, above, left};
@@ -51,8 +51,8 @@ pub(crate) fn flags(
     requires place { IsPlace place }
     requires blocks { count_of place ≤ blocks_of term }
     requires component { HasComponent term }
-    ensures a { (mbs : List Mb) → StandsAt (λ mb. mb) shape.now done.now mbs at → result.0 ≡ flag_a missing term shape.now mbs at field mb.now place }
-    ensures b { (mbs : List Mb) → StandsAt (λ mb. mb) shape.now done.now mbs at → result.1 ≡ flag_b missing term shape.now mbs at field mb.now place }
+    ensures a { (mbs : List Mb) → IsReadAt shape.now done.now mbs at → result.0 ≡ flag_a missing term shape.now mbs at field mb.now place }
+    ensures b { (mbs : List Mb) → IsReadAt shape.now done.now mbs at → result.1 ≡ flag_b missing term shape.now mbs at field mb.now place }
 {
     let a = left(shape, done, at, field, place);
     let b = above(shape, done, at, field, place);

@@ -4,7 +4,7 @@ ghost use Rattle.binarisation.specs.BinString.{Reads, Writes};
 ghost use Rattle.h264_types.specs.Slice.{IsInPicture};
 ghost use Rattle.h264_types.specs.Sizes.{HasSizes};
 ghost use Rattle.h264_types.specs.Valid.{IsQpDelta};
-ghost use Rattle.h264_types.specs.LastRows.{StandsAt};
+ghost use Rattle.cabac_contexts.specs.Terms.{IsReadAt};
 ghost use Rattle.h264_types.specs.declared.macroblock.Mb.{Mb};
 ghost use Rattle.cabac_mb_residual.specs.Levels.{IsResidual, without_levels};
 ghost use Rattle.cabac_macroblock.specs.MacroblockLayer as layer;
@@ -26,7 +26,7 @@ fn read_delta<S: BinSource>(
     mb: &mut Mb,
 ) -> Option<()>
     requires going { S.over s.old ≡ false }
-    ensures reads { (mbs : List Mb) → StandsAt (λ mb. mb) shape.now done.now mbs at → Reads S.step (layer.qp_delta mbs at mb.old) (option_map (λ _. mb.new) result) s.old s.new }
+    ensures reads { (mbs : List Mb) → IsReadAt shape.now done.now mbs at → Reads S.step (layer.qp_delta mbs at mb.old) (option_map (λ _. mb.new) result) s.old s.new }
     ensures going { OnSome result (S.over s.new ≡ false) }
     ensures kind { mb.new.kind ≡ mb.old.kind }
 {
@@ -45,7 +45,7 @@ pub fn read_coding<S: BinSource>(
 ) -> Option<()>
     requires going { S.over s.old ≡ false }
     requires picture { IsInPicture shape.now at }
-    ensures reads { (mbs : List Mb) → StandsAt (λ mb. mb) shape.now done.now mbs at → Reads S.step (layer.coding shape.now mbs at mb.old) (option_map (λ _. mb.new) result) s.old s.new }
+    ensures reads { (mbs : List Mb) → IsReadAt shape.now done.now mbs at → Reads S.step (layer.coding shape.now mbs at mb.old) (option_map (λ _. mb.new) result) s.old s.new }
     ensures going { OnSome result (S.over s.new ≡ false) }
     ensures kind { mb.new.kind ≡ mb.old.kind }
 {
@@ -66,7 +66,7 @@ fn write_delta<S: BinSink>(
 ) -> Result<(), Memory>
     requires going { S.over s.old ≡ false }
     requires delta { IsQpDelta mb.now }
-    ensures writes { (mbs : List Mb) → StandsAt (λ mb. mb) shape.now done.now mbs at → OnOk result (Writes S.step (layer.qp_delta mbs at (before_qp_delta mb.now)) (without_levels mb.now) s.old s.new) }
+    ensures writes { (mbs : List Mb) → IsReadAt shape.now done.now mbs at → OnOk result (Writes S.step (layer.qp_delta mbs at (before_qp_delta mb.now)) (without_levels mb.now) s.old s.new) }
     ensures going { OnOk result (S.over s.new ≡ false) }
     ensures err { OnErr result (S.over s.new ≡ true) }
 {
@@ -87,7 +87,7 @@ pub fn write_coding<S: BinSink>(
     requires sizes { HasSizes mb.now }
     requires delta { IsQpDelta mb.now }
     requires residual { IsResidual mb.now }
-    ensures writes { (mbs : List Mb) → StandsAt (λ mb. mb) shape.now done.now mbs at → OnOk result (Writes S.step (layer.coding shape.now mbs at (before_qp_delta mb.now)) mb.now s.old s.new) }
+    ensures writes { (mbs : List Mb) → IsReadAt shape.now done.now mbs at → OnOk result (Writes S.step (layer.coding shape.now mbs at (before_qp_delta mb.now)) mb.now s.old s.new) }
     ensures going { OnOk result (S.over s.new ≡ false) }
     ensures err { OnErr result (S.over s.new ≡ true) }
 {

@@ -5,7 +5,7 @@ ghost use Rattle.h264_types.specs.Slice.{IsInPicture};
 ghost use Rattle.h264_types.specs.Kind.{is_intra, is_i_pcm};
 ghost use Rattle.h264_types.specs.declared.macroblock.MbKind.TheVariants.{Intra};
 ghost use Rattle.h264_types.specs.Valid.{IsMacroblock};
-ghost use Rattle.h264_types.specs.LastRows.{StandsAt};
+ghost use Rattle.cabac_contexts.specs.Terms.{IsReadAt};
 ghost use Rattle.h264_types.specs.declared.macroblock.Mb.{Mb};
 ghost use Rattle.cabac_mb_residual.specs.Levels.{IsResidual};
 ghost use Rattle.cabac_macroblock.specs.MacroblockLayer as layer;
@@ -31,7 +31,7 @@ fn read_elements<S: BinSource>(
     requires over { S.over s.old ≡ is_i_pcm mb.old.kind }
     requires picture { IsInPicture shape.now at }
     requires none { mb.old.pattern.luma ≡ 0 }
-    ensures reads { (mbs : List Mb) → StandsAt (λ mb. mb) shape.now done.now mbs at → Reads S.step (layer.elements shape.now mbs at mb.old) (option_map (λ _. mb.new) result) s.old s.new }
+    ensures reads { (mbs : List Mb) → IsReadAt shape.now done.now mbs at → Reads S.step (layer.elements shape.now mbs at mb.old) (option_map (λ _. mb.new) result) s.old s.new }
     ensures over { IfSome result (λ _. S.over s.new ≡ is_i_pcm mb.new.kind) }
 {
     if mb.kind.is_i_pcm() {
@@ -56,7 +56,7 @@ pub fn read_macroblock<S: BinSource>(
 ) -> Option<()>
     requires going { S.over s.old ≡ false }
     requires picture { IsInPicture shape.now at }
-    ensures reads { (mbs : List Mb) → StandsAt (λ mb. mb) shape.now done.now mbs at → Reads S.step (layer.macroblock_i shape.now mbs at field) (option_map (λ _. mb.new) result) s.old s.new }
+    ensures reads { (mbs : List Mb) → IsReadAt shape.now done.now mbs at → Reads S.step (layer.macroblock_i shape.now mbs at field) (option_map (λ _. mb.new) result) s.old s.new }
     ensures over { IfSome result (λ _. S.over s.new ≡ is_i_pcm mb.new.kind) }
 {
     *mb = Mb::without_elements(MbKind::Intra(0));
@@ -79,7 +79,7 @@ fn write_elements<S: BinSink>(
     requires valid { IsMacroblock shape.now mb.now }
     requires intra { is_intra mb.now.kind ≡ true }
     requires residual { IsResidual mb.now }
-    ensures writes { (mbs : List Mb) → StandsAt (λ mb. mb) shape.now done.now mbs at → OnOk result (Writes S.step (layer.elements shape.now mbs at (before_t8 (layer.without_samples mb.now))) (layer.without_samples mb.now) s.old s.new) }
+    ensures writes { (mbs : List Mb) → IsReadAt shape.now done.now mbs at → OnOk result (Writes S.step (layer.elements shape.now mbs at (before_t8 (layer.without_samples mb.now))) (layer.without_samples mb.now) s.old s.new) }
     ensures over { OnOk result (S.over s.new ≡ is_i_pcm mb.now.kind) }
     ensures err { OnErr result (S.over s.new ≡ true) }
 {
@@ -115,7 +115,7 @@ pub fn write_macroblock<S: BinSink>(
     requires valid { IsMacroblock shape.now mb.now }
     requires intra { is_intra mb.now.kind ≡ true }
     requires residual { IsResidual mb.now }
-    ensures writes { (mbs : List Mb) → StandsAt (λ mb. mb) shape.now done.now mbs at → OnOk result (Writes S.step (layer.macroblock_i shape.now mbs at mb.now.field) (layer.without_samples mb.now) s.old s.new) }
+    ensures writes { (mbs : List Mb) → IsReadAt shape.now done.now mbs at → OnOk result (Writes S.step (layer.macroblock_i shape.now mbs at mb.now.field) (layer.without_samples mb.now) s.old s.new) }
     ensures over { OnOk result (S.over s.new ≡ is_i_pcm mb.now.kind) }
     ensures err { OnErr result (S.over s.new ≡ true) }
 {

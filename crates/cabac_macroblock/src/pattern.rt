@@ -4,7 +4,7 @@ ghost use Rattle.binarisation.specs.BinString.{Reads, Writes};
 ghost use Rattle.h264_types.specs.Slice.{IsInPicture};
 ghost use Rattle.h264_types.specs.Sent.{sends_pattern};
 ghost use Rattle.h264_types.specs.Valid.{IsPattern};
-ghost use Rattle.h264_types.specs.LastRows.{StandsAt};
+ghost use Rattle.cabac_contexts.specs.Terms.{IsReadAt};
 ghost use Rattle.h264_types.specs.declared.macroblock.Mb.{Mb};
 ghost use Rattle.cabac_macroblock.specs.CodedBlockPattern as pattern;
 ghost use Rattle.cabac_macroblock.specs.Stages.{before_pattern, before_chroma_pattern, before_qp_delta};
@@ -30,7 +30,7 @@ fn read_luma_bit<S: BinSource>(
     requires picture { IsInPicture shape.now at }
     requires quarter { quarter < 4 }
     requires before { mb.old.pattern.luma < 2 ^ quarter }
-    ensures reads { (mbs : List Mb) → StandsAt (λ mb. mb) shape.now done.now mbs at → Reads S.step (pattern.luma_bit shape.now mbs at quarter mb.old) (option_map (λ _. mb.new) result) s.old s.new }
+    ensures reads { (mbs : List Mb) → IsReadAt shape.now done.now mbs at → Reads S.step (pattern.luma_bit shape.now mbs at quarter mb.old) (option_map (λ _. mb.new) result) s.old s.new }
     ensures going { OnSome result (S.over s.new ≡ false) }
     ensures bits { mb.new.pattern.luma < 2 ^ (quarter + 1) }
     ensures others { mb.new ≡ record mb.old { pattern = record mb.old.pattern { luma = mb.new.pattern.luma } } }
@@ -53,7 +53,7 @@ fn read_luma<S: BinSource>(
     requires going { S.over s.old ≡ false }
     requires picture { IsInPicture shape.now at }
     requires none { mb.old.pattern.luma ≡ 0 }
-    ensures reads { (mbs : List Mb) → StandsAt (λ mb. mb) shape.now done.now mbs at → Reads S.step (pattern.luma_bits shape.now mbs at mb.old) (option_map (λ _. mb.new) result) s.old s.new }
+    ensures reads { (mbs : List Mb) → IsReadAt shape.now done.now mbs at → Reads S.step (pattern.luma_bits shape.now mbs at mb.old) (option_map (λ _. mb.new) result) s.old s.new }
     ensures going { OnSome result (S.over s.new ≡ false) }
     ensures others { mb.new ≡ record mb.old { pattern = record mb.old.pattern { luma = mb.new.pattern.luma } } }
 {
@@ -73,7 +73,7 @@ fn read_chroma<S: BinSource>(
 ) -> Option<()>
     requires going { S.over s.old ≡ false }
     requires picture { IsInPicture shape.now at }
-    ensures reads { (mbs : List Mb) → StandsAt (λ mb. mb) shape.now done.now mbs at → Reads S.step (pattern.chroma_pattern shape.now mbs at mb.old) (option_map (λ _. mb.new) result) s.old s.new }
+    ensures reads { (mbs : List Mb) → IsReadAt shape.now done.now mbs at → Reads S.step (pattern.chroma_pattern shape.now mbs at mb.old) (option_map (λ _. mb.new) result) s.old s.new }
     ensures going { OnSome result (S.over s.new ≡ false) }
     ensures others { mb.new ≡ record mb.old { pattern = record mb.old.pattern { chroma = mb.new.pattern.chroma } } }
 {
@@ -94,7 +94,7 @@ pub fn read_pattern<S: BinSource>(
     requires going { S.over s.old ≡ false }
     requires picture { IsInPicture shape.now at }
     requires none { mb.old.pattern.luma ≡ 0 }
-    ensures reads { (mbs : List Mb) → StandsAt (λ mb. mb) shape.now done.now mbs at → Reads S.step (pattern.pattern shape.now mbs at mb.old) (option_map (λ _. mb.new) result) s.old s.new }
+    ensures reads { (mbs : List Mb) → IsReadAt shape.now done.now mbs at → Reads S.step (pattern.pattern shape.now mbs at mb.old) (option_map (λ _. mb.new) result) s.old s.new }
     ensures going { OnSome result (S.over s.new ≡ false) }
     ensures others { mb.new ≡ record mb.old { pattern = mb.new.pattern } }
 {
@@ -117,7 +117,7 @@ fn write_luma<S: BinSink>(
     requires picture { IsInPicture shape.now at }
     requires sent { sends_pattern mb.now.kind ≡ true }
     requires luma { mb.now.pattern.luma ≤ 15 }
-    ensures writes { (mbs : List Mb) → StandsAt (λ mb. mb) shape.now done.now mbs at → OnOk result (Writes S.step (pattern.luma_bits shape.now mbs at (before_pattern mb.now)) (before_chroma_pattern mb.now) s.old s.new) }
+    ensures writes { (mbs : List Mb) → IsReadAt shape.now done.now mbs at → OnOk result (Writes S.step (pattern.luma_bits shape.now mbs at (before_pattern mb.now)) (before_chroma_pattern mb.now) s.old s.new) }
     ensures going { OnOk result (S.over s.new ≡ false) }
     ensures err { OnErr result (S.over s.new ≡ true) }
 {
@@ -140,7 +140,7 @@ fn write_chroma<S: BinSink>(
     requires going { S.over s.old ≡ false }
     requires picture { IsInPicture shape.now at }
     requires chroma { mb.now.pattern.chroma ≤ 2 }
-    ensures writes { (mbs : List Mb) → StandsAt (λ mb. mb) shape.now done.now mbs at → OnOk result (Writes S.step (pattern.chroma_pattern shape.now mbs at (before_chroma_pattern mb.now)) (before_qp_delta mb.now) s.old s.new) }
+    ensures writes { (mbs : List Mb) → IsReadAt shape.now done.now mbs at → OnOk result (Writes S.step (pattern.chroma_pattern shape.now mbs at (before_chroma_pattern mb.now)) (before_qp_delta mb.now) s.old s.new) }
     ensures going { OnOk result (S.over s.new ≡ false) }
     ensures err { OnErr result (S.over s.new ≡ true) }
 {
@@ -160,7 +160,7 @@ pub fn write_pattern<S: BinSink>(
     requires going { S.over s.old ≡ false }
     requires picture { IsInPicture shape.now at }
     requires pattern { IsPattern mb.now }
-    ensures writes { (mbs : List Mb) → StandsAt (λ mb. mb) shape.now done.now mbs at → OnOk result (Writes S.step (pattern.pattern shape.now mbs at (before_pattern mb.now)) (before_qp_delta mb.now) s.old s.new) }
+    ensures writes { (mbs : List Mb) → IsReadAt shape.now done.now mbs at → OnOk result (Writes S.step (pattern.pattern shape.now mbs at (before_pattern mb.now)) (before_qp_delta mb.now) s.old s.new) }
     ensures going { OnOk result (S.over s.new ≡ false) }
     ensures err { OnErr result (S.over s.new ≡ true) }
 {

@@ -5,7 +5,7 @@ ghost use Rattle.h264_types.specs.Sent.{sends_t8_first};
 ghost use Rattle.h264_types.specs.Slice.{IsInPicture};
 ghost use Rattle.h264_types.specs.Sizes.{HasSizes};
 ghost use Rattle.h264_types.specs.Valid.{mode_bound, IsIntraPredicted};
-ghost use Rattle.h264_types.specs.LastRows.{StandsAt};
+ghost use Rattle.cabac_contexts.specs.Terms.{IsReadAt};
 ghost use Rattle.h264_types.specs.declared.macroblock.Mb.{Mb};
 ghost use Rattle.cabac_macroblock.specs.IntraPrediction as intra;
 ghost use Rattle.cabac_macroblock.specs.Stages.{before_t8, before_modes, before_chroma_mode, before_pattern};
@@ -91,7 +91,7 @@ fn read_chroma<S: BinSource>(
 ) -> Option<()>
     requires going { S.over s.old ≡ false }
     requires picture { IsInPicture shape.now at }
-    ensures reads { (mbs : List Mb) → StandsAt (λ mb. mb) shape.now done.now mbs at → Reads S.step (intra.chroma_mode shape.now mbs at mb.old) (option_map (λ _. mb.new) result) s.old s.new }
+    ensures reads { (mbs : List Mb) → IsReadAt shape.now done.now mbs at → Reads S.step (intra.chroma_mode shape.now mbs at mb.old) (option_map (λ _. mb.new) result) s.old s.new }
     ensures going { OnSome result (S.over s.new ≡ false) }
     ensures others { mb.new ≡ record mb.old { chroma_mode = mb.new.chroma_mode } }
 {
@@ -110,7 +110,7 @@ fn write_chroma<S: BinSink>(
     requires going { S.over s.old ≡ false }
     requires picture { IsInPicture shape.now at }
     requires mode { mb.now.chroma_mode ≤ 3 }
-    ensures writes { (mbs : List Mb) → StandsAt (λ mb. mb) shape.now done.now mbs at → OnOk result (Writes S.step (intra.chroma_mode shape.now mbs at (before_chroma_mode mb.now)) (before_pattern mb.now) s.old s.new) }
+    ensures writes { (mbs : List Mb) → IsReadAt shape.now done.now mbs at → OnOk result (Writes S.step (intra.chroma_mode shape.now mbs at (before_chroma_mode mb.now)) (before_pattern mb.now) s.old s.new) }
     ensures going { OnOk result (S.over s.new ≡ false) }
     ensures err { OnErr result (S.over s.new ≡ true) }
 {
@@ -129,7 +129,7 @@ pub fn read_prediction<S: BinSource>(
 ) -> Option<()>
     requires going { S.over s.old ≡ false }
     requires picture { IsInPicture shape.now at }
-    ensures reads { (mbs : List Mb) → StandsAt (λ mb. mb) shape.now done.now mbs at → Reads S.step (intra.intra_prediction shape.now mbs at mb.old) (option_map (λ _. mb.new) result) s.old s.new }
+    ensures reads { (mbs : List Mb) → IsReadAt shape.now done.now mbs at → Reads S.step (intra.intra_prediction shape.now mbs at mb.old) (option_map (λ _. mb.new) result) s.old s.new }
     ensures going { OnSome result (S.over s.new ≡ false) }
     ensures others { IfSome result (λ _. mb.new ≡ record mb.old { t8 = mb.new.t8; modes = mb.new.modes; chroma_mode = mb.new.chroma_mode }) }
 {
@@ -151,7 +151,7 @@ pub fn write_prediction<S: BinSink>(
     requires sizes { HasSizes mb.now }
     requires t8 { mb.now.t8 ≡ true → sends_t8_first shape.now mb.now.kind ≡ true }
     requires predicted { IsIntraPredicted mb.now }
-    ensures writes { (mbs : List Mb) → StandsAt (λ mb. mb) shape.now done.now mbs at → OnOk result (Writes S.step (intra.intra_prediction shape.now mbs at (before_t8 mb.now)) (before_pattern mb.now) s.old s.new) }
+    ensures writes { (mbs : List Mb) → IsReadAt shape.now done.now mbs at → OnOk result (Writes S.step (intra.intra_prediction shape.now mbs at (before_t8 mb.now)) (before_pattern mb.now) s.old s.new) }
     ensures going { OnOk result (S.over s.new ≡ false) }
     ensures err { OnErr result (S.over s.new ≡ true) }
 {

@@ -3,7 +3,7 @@ ghost use Rattle.std.specs.Prelude.{◌≡◌, option_map, false, true, OnOk, On
 ghost use Rattle.binarisation.specs.BinString.{Reads, Writes};
 ghost use Rattle.h264_types.specs.Sent.{sends_t8_first};
 ghost use Rattle.h264_types.specs.Slice.{IsInPicture};
-ghost use Rattle.h264_types.specs.LastRows.{StandsAt};
+ghost use Rattle.cabac_contexts.specs.Terms.{IsReadAt};
 ghost use Rattle.h264_types.specs.declared.macroblock.Mb.{Mb};
 ghost use Rattle.cabac_macroblock.specs.IntraPrediction as intra;
 ghost use Rattle.cabac_macroblock.specs.Stages.{before_t8, before_modes};
@@ -24,7 +24,7 @@ pub fn read_transform_size<S: BinSource>(
 ) -> Option<()>
     requires going { S.over s.old ≡ false }
     requires picture { IsInPicture shape.now at }
-    ensures reads { (mbs : List Mb) → StandsAt (λ mb. mb) shape.now done.now mbs at → Reads S.step (intra.transform_size shape.now mbs at mb.old) (option_map (λ _. mb.new) result) s.old s.new }
+    ensures reads { (mbs : List Mb) → IsReadAt shape.now done.now mbs at → Reads S.step (intra.transform_size shape.now mbs at mb.old) (option_map (λ _. mb.new) result) s.old s.new }
     ensures going { OnSome result (S.over s.new ≡ false) }
     ensures others { mb.new ≡ record mb.old { t8 = mb.new.t8 } }
 {
@@ -45,7 +45,7 @@ pub fn write_transform_size<S: BinSink>(
     requires going { S.over s.old ≡ false }
     requires picture { IsInPicture shape.now at }
     requires sent { mb.now.t8 ≡ true → sends_t8_first shape.now mb.now.kind ≡ true }
-    ensures writes { (mbs : List Mb) → StandsAt (λ mb. mb) shape.now done.now mbs at → OnOk result (Writes S.step (intra.transform_size shape.now mbs at (before_t8 mb.now)) (before_modes mb.now) s.old s.new) }
+    ensures writes { (mbs : List Mb) → IsReadAt shape.now done.now mbs at → OnOk result (Writes S.step (intra.transform_size shape.now mbs at (before_t8 mb.now)) (before_modes mb.now) s.old s.new) }
     ensures going { OnOk result (S.over s.new ≡ false) }
     ensures err { OnErr result (S.over s.new ≡ true) }
 {

@@ -4,7 +4,7 @@ ghost use Rattle.binarisation.specs.Each.{each};
 ghost use Rattle.h264_types.specs.Macroblock.{pattern_of};
 ghost use Rattle.h264_types.specs.Sizes.{HasSizes};
 ghost use Rattle.h264_types.specs.Slice.{IsInPicture};
-ghost use Rattle.h264_types.specs.LastRows.{StandsAt};
+ghost use Rattle.cabac_contexts.specs.Terms.{IsReadAt};
 ghost use Rattle.h264_types.specs.declared.macroblock.Mb.{Mb};
 ghost use Rattle.cabac_mb_residual.specs.MacroblockResidual as layer;
 ghost use Rattle.cabac_mb_residual.specs.Levels.{IsResidual, so_far};
@@ -28,7 +28,7 @@ fn read_dc_of<S: BinSource>(
     requires going { S.over s.old ≡ false }
     requires picture { IsInPicture shape.now at }
     requires comp { comp < 2 }
-    ensures reads { (mbs : List Mb) → StandsAt (λ mb. mb) shape.now done.now mbs at → Reads S.step (layer.chroma_dc shape.now mbs at comp mb.old) (option_map (λ _. mb.new) result) s.old s.new }
+    ensures reads { (mbs : List Mb) → IsReadAt shape.now done.now mbs at → Reads S.step (layer.chroma_dc shape.now mbs at comp mb.old) (option_map (λ _. mb.new) result) s.old s.new }
     ensures going { OnSome result (S.over s.new ≡ false) }
     ensures kind { mb.new.kind ≡ mb.old.kind }
 {
@@ -50,7 +50,7 @@ pub fn read_chroma_dc<S: BinSource>(
 ) -> Option<()>
     requires going { S.over s.old ≡ false }
     requires picture { IsInPicture shape.now at }
-    ensures reads { (mbs : List Mb) → StandsAt (λ mb. mb) shape.now done.now mbs at → Reads S.step (each 2 (layer.chroma_dc shape.now mbs at) 0 mb.old) (option_map (λ _. mb.new) result) s.old s.new }
+    ensures reads { (mbs : List Mb) → IsReadAt shape.now done.now mbs at → Reads S.step (each 2 (layer.chroma_dc shape.now mbs at) 0 mb.old) (option_map (λ _. mb.new) result) s.old s.new }
     ensures going { OnSome result (S.over s.new ≡ false) }
     ensures kind { mb.new.kind ≡ mb.old.kind }
 {
@@ -74,7 +74,7 @@ fn read_block<S: BinSource>(
     requires picture { IsInPicture shape.now at }
     requires comp { comp < 2 }
     requires n { n < 4 }
-    ensures reads { (mbs : List Mb) → StandsAt (λ mb. mb) shape.now done.now mbs at → Reads S.step (layer.chroma_block shape.now mbs at comp n mb.old) (option_map (λ _. mb.new) result) s.old s.new }
+    ensures reads { (mbs : List Mb) → IsReadAt shape.now done.now mbs at → Reads S.step (layer.chroma_block shape.now mbs at comp n mb.old) (option_map (λ _. mb.new) result) s.old s.new }
     ensures going { OnSome result (S.over s.new ≡ false) }
     ensures kind { mb.new.kind ≡ mb.old.kind }
 {
@@ -96,7 +96,7 @@ fn read_ac_of<S: BinSource>(
     requires going { S.over s.old ≡ false }
     requires picture { IsInPicture shape.now at }
     requires comp { comp < 2 }
-    ensures reads { (mbs : List Mb) → StandsAt (λ mb. mb) shape.now done.now mbs at → Reads S.step (layer.chroma_ac shape.now mbs at comp mb.old) (option_map (λ _. mb.new) result) s.old s.new }
+    ensures reads { (mbs : List Mb) → IsReadAt shape.now done.now mbs at → Reads S.step (layer.chroma_ac shape.now mbs at comp mb.old) (option_map (λ _. mb.new) result) s.old s.new }
     ensures going { OnSome result (S.over s.new ≡ false) }
     ensures kind { mb.new.kind ≡ mb.old.kind }
 {
@@ -119,7 +119,7 @@ pub fn read_chroma_ac<S: BinSource>(
 ) -> Option<()>
     requires going { S.over s.old ≡ false }
     requires picture { IsInPicture shape.now at }
-    ensures reads { (mbs : List Mb) → StandsAt (λ mb. mb) shape.now done.now mbs at → Reads S.step (each 2 (layer.chroma_ac shape.now mbs at) 0 mb.old) (option_map (λ _. mb.new) result) s.old s.new }
+    ensures reads { (mbs : List Mb) → IsReadAt shape.now done.now mbs at → Reads S.step (each 2 (layer.chroma_ac shape.now mbs at) 0 mb.old) (option_map (λ _. mb.new) result) s.old s.new }
     ensures going { OnSome result (S.over s.new ≡ false) }
     ensures kind { mb.new.kind ≡ mb.old.kind }
 {
@@ -143,7 +143,7 @@ fn write_dc_of<S: BinSink>(
     requires comp { comp < 2 }
     requires sizes { HasSizes mb.now }
     requires residual { IsResidual mb.now }
-    ensures writes { (mbs : List Mb) → StandsAt (λ mb. mb) shape.now done.now mbs at → OnOk result (Writes S.step (layer.chroma_dc shape.now mbs at comp (so_far 16 256 (4 * comp) 0 mb.now)) (so_far 16 256 (4 * (comp + 1)) 0 mb.now) s.old s.new) }
+    ensures writes { (mbs : List Mb) → IsReadAt shape.now done.now mbs at → OnOk result (Writes S.step (layer.chroma_dc shape.now mbs at comp (so_far 16 256 (4 * comp) 0 mb.now)) (so_far 16 256 (4 * (comp + 1)) 0 mb.now) s.old s.new) }
     ensures going { OnOk result (S.over s.new ≡ false) }
     ensures err { OnErr result (S.over s.new ≡ true) }
 {
@@ -167,7 +167,7 @@ pub fn write_chroma_dc<S: BinSink>(
     requires picture { IsInPicture shape.now at }
     requires sizes { HasSizes mb.now }
     requires residual { IsResidual mb.now }
-    ensures writes { (mbs : List Mb) → StandsAt (λ mb. mb) shape.now done.now mbs at → OnOk result (Writes S.step (each 2 (layer.chroma_dc shape.now mbs at) 0 (so_far 16 256 0 0 mb.now)) (so_far 16 256 8 0 mb.now) s.old s.new) }
+    ensures writes { (mbs : List Mb) → IsReadAt shape.now done.now mbs at → OnOk result (Writes S.step (each 2 (layer.chroma_dc shape.now mbs at) 0 (so_far 16 256 0 0 mb.now)) (so_far 16 256 8 0 mb.now) s.old s.new) }
     ensures going { OnOk result (S.over s.new ≡ false) }
     ensures err { OnErr result (S.over s.new ≡ true) }
 {
@@ -194,7 +194,7 @@ fn write_block<S: BinSink>(
     requires sizes { HasSizes mb.now }
     requires residual { IsResidual mb.now }
     requires coded { (pattern_of mb.now).chroma ≡ 2 }
-    ensures writes { (mbs : List Mb) → StandsAt (λ mb. mb) shape.now done.now mbs at → OnOk result (Writes S.step (layer.chroma_block shape.now mbs at comp n (so_far 16 256 8 (60 * comp + 15 * n) mb.now)) (so_far 16 256 8 (60 * comp + 15 * (n + 1)) mb.now) s.old s.new) }
+    ensures writes { (mbs : List Mb) → IsReadAt shape.now done.now mbs at → OnOk result (Writes S.step (layer.chroma_block shape.now mbs at comp n (so_far 16 256 8 (60 * comp + 15 * n) mb.now)) (so_far 16 256 8 (60 * comp + 15 * (n + 1)) mb.now) s.old s.new) }
     ensures going { OnOk result (S.over s.new ≡ false) }
     ensures err { OnErr result (S.over s.new ≡ true) }
 {
@@ -217,7 +217,7 @@ fn write_ac_of<S: BinSink>(
     requires comp { comp < 2 }
     requires sizes { HasSizes mb.now }
     requires residual { IsResidual mb.now }
-    ensures writes { (mbs : List Mb) → StandsAt (λ mb. mb) shape.now done.now mbs at → OnOk result (Writes S.step (layer.chroma_ac shape.now mbs at comp (so_far 16 256 8 (60 * comp) mb.now)) (so_far 16 256 8 (60 * (comp + 1)) mb.now) s.old s.new) }
+    ensures writes { (mbs : List Mb) → IsReadAt shape.now done.now mbs at → OnOk result (Writes S.step (layer.chroma_ac shape.now mbs at comp (so_far 16 256 8 (60 * comp) mb.now)) (so_far 16 256 8 (60 * (comp + 1)) mb.now) s.old s.new) }
     ensures going { OnOk result (S.over s.new ≡ false) }
     ensures err { OnErr result (S.over s.new ≡ true) }
 {
@@ -242,7 +242,7 @@ pub fn write_chroma_ac<S: BinSink>(
     requires picture { IsInPicture shape.now at }
     requires sizes { HasSizes mb.now }
     requires residual { IsResidual mb.now }
-    ensures writes { (mbs : List Mb) → StandsAt (λ mb. mb) shape.now done.now mbs at → OnOk result (Writes S.step (each 2 (layer.chroma_ac shape.now mbs at) 0 (so_far 16 256 8 0 mb.now)) (so_far 16 256 8 120 mb.now) s.old s.new) }
+    ensures writes { (mbs : List Mb) → IsReadAt shape.now done.now mbs at → OnOk result (Writes S.step (each 2 (layer.chroma_ac shape.now mbs at) 0 (so_far 16 256 8 0 mb.now)) (so_far 16 256 8 120 mb.now) s.old s.new) }
     ensures going { OnOk result (S.over s.new ≡ false) }
     ensures err { OnErr result (S.over s.new ≡ true) }
 {

@@ -4,7 +4,7 @@ ghost use Rattle.binarisation.specs.Each.{each};
 ghost use Rattle.cabac_contexts.specs.Terms as terms;
 ghost use Rattle.h264_types.specs.Sizes.{HasSizes};
 ghost use Rattle.h264_types.specs.Slice.{IsInPicture};
-ghost use Rattle.h264_types.specs.LastRows.{StandsAt};
+ghost use Rattle.cabac_contexts.specs.Terms.{IsReadAt};
 ghost use Rattle.h264_types.specs.declared.macroblock.Mb.{Mb};
 ghost use Rattle.cabac_mb_residual.specs.MacroblockResidual as layer;
 ghost use Rattle.cabac_mb_residual.specs.Levels.{IsResidual, so_far};
@@ -63,7 +63,7 @@ pub fn read_luma_dc<S: BinSource>(
 ) -> Option<()>
     requires going { S.over s.old ≡ false }
     requires picture { IsInPicture shape.now at }
-    ensures reads { (mbs : List Mb) → StandsAt (λ mb. mb) shape.now done.now mbs at → Reads S.step (layer.luma_dc shape.now mbs at mb.old) (option_map (λ _. mb.new) result) s.old s.new }
+    ensures reads { (mbs : List Mb) → IsReadAt shape.now done.now mbs at → Reads S.step (layer.luma_dc shape.now mbs at mb.old) (option_map (λ _. mb.new) result) s.old s.new }
     ensures going { OnSome result (S.over s.new ≡ false) }
     ensures kind { mb.new.kind ≡ mb.old.kind }
 {
@@ -87,7 +87,7 @@ fn read_luma4<S: BinSource>(
     requires going { S.over s.old ≡ false }
     requires picture { IsInPicture shape.now at }
     requires n { n < 16 }
-    ensures reads { (mbs : List Mb) → StandsAt (λ mb. mb) shape.now done.now mbs at → Reads S.step (layer.luma4 shape.now mbs at n mb.old) (option_map (λ _. mb.new) result) s.old s.new }
+    ensures reads { (mbs : List Mb) → IsReadAt shape.now done.now mbs at → Reads S.step (layer.luma4 shape.now mbs at n mb.old) (option_map (λ _. mb.new) result) s.old s.new }
     ensures going { OnSome result (S.over s.new ≡ false) }
     ensures kind { mb.new.kind ≡ mb.old.kind }
 {
@@ -113,7 +113,7 @@ fn read_blocks<S: BinSource>(
     requires going { S.over s.old ≡ false }
     requires picture { IsInPicture shape.now at }
     requires quarter { quarter < 4 }
-    ensures reads { (mbs : List Mb) → StandsAt (λ mb. mb) shape.now done.now mbs at → Reads S.step (each 4 (layer.luma4 shape.now mbs at) (4 * quarter) mb.old) (option_map (λ _. mb.new) result) s.old s.new }
+    ensures reads { (mbs : List Mb) → IsReadAt shape.now done.now mbs at → Reads S.step (each 4 (layer.luma4 shape.now mbs at) (4 * quarter) mb.old) (option_map (λ _. mb.new) result) s.old s.new }
     ensures going { OnSome result (S.over s.new ≡ false) }
     ensures kind { mb.new.kind ≡ mb.old.kind }
 {
@@ -135,7 +135,7 @@ fn read_quarter<S: BinSource>(
     requires going { S.over s.old ≡ false }
     requires picture { IsInPicture shape.now at }
     requires quarter { quarter < 4 }
-    ensures reads { (mbs : List Mb) → StandsAt (λ mb. mb) shape.now done.now mbs at → Reads S.step (layer.quarter shape.now mbs at quarter mb.old) (option_map (λ _. mb.new) result) s.old s.new }
+    ensures reads { (mbs : List Mb) → IsReadAt shape.now done.now mbs at → Reads S.step (layer.quarter shape.now mbs at quarter mb.old) (option_map (λ _. mb.new) result) s.old s.new }
     ensures going { OnSome result (S.over s.new ≡ false) }
     ensures kind { mb.new.kind ≡ mb.old.kind }
 {
@@ -159,7 +159,7 @@ pub fn read_luma<S: BinSource>(
 ) -> Option<()>
     requires going { S.over s.old ≡ false }
     requires picture { IsInPicture shape.now at }
-    ensures reads { (mbs : List Mb) → StandsAt (λ mb. mb) shape.now done.now mbs at → Reads S.step (each 4 (layer.quarter shape.now mbs at) 0 mb.old) (option_map (λ _. mb.new) result) s.old s.new }
+    ensures reads { (mbs : List Mb) → IsReadAt shape.now done.now mbs at → Reads S.step (each 4 (layer.quarter shape.now mbs at) 0 mb.old) (option_map (λ _. mb.new) result) s.old s.new }
     ensures going { OnSome result (S.over s.new ≡ false) }
     ensures kind { mb.new.kind ≡ mb.old.kind }
 {
@@ -181,7 +181,7 @@ pub fn write_luma_dc<S: BinSink>(
     requires picture { IsInPicture shape.now at }
     requires sizes { HasSizes mb.now }
     requires residual { IsResidual mb.now }
-    ensures writes { (mbs : List Mb) → StandsAt (λ mb. mb) shape.now done.now mbs at → OnOk result (Writes S.step (layer.luma_dc shape.now mbs at (so_far 0 0 0 0 mb.now)) (so_far 16 0 0 0 mb.now) s.old s.new) }
+    ensures writes { (mbs : List Mb) → IsReadAt shape.now done.now mbs at → OnOk result (Writes S.step (layer.luma_dc shape.now mbs at (so_far 0 0 0 0 mb.now)) (so_far 16 0 0 0 mb.now) s.old s.new) }
     ensures going { OnOk result (S.over s.new ≡ false) }
     ensures err { OnErr result (S.over s.new ≡ true) }
 {
@@ -207,7 +207,7 @@ fn write_luma4<S: BinSink>(
     requires sizes { HasSizes mb.now }
     requires residual { IsResidual mb.now }
     requires coded { terms.has_luma mb.now (n / 4) ≡ true }
-    ensures writes { (mbs : List Mb) → StandsAt (λ mb. mb) shape.now done.now mbs at → OnOk result (Writes S.step (layer.luma4 shape.now mbs at n (so_far 16 (16 * n) 0 0 mb.now)) (so_far 16 (16 * (n + 1)) 0 0 mb.now) s.old s.new) }
+    ensures writes { (mbs : List Mb) → IsReadAt shape.now done.now mbs at → OnOk result (Writes S.step (layer.luma4 shape.now mbs at n (so_far 16 (16 * n) 0 0 mb.now)) (so_far 16 (16 * (n + 1)) 0 0 mb.now) s.old s.new) }
     ensures going { OnOk result (S.over s.new ≡ false) }
     ensures err { OnErr result (S.over s.new ≡ true) }
 {
@@ -233,7 +233,7 @@ fn write_blocks<S: BinSink>(
     requires sizes { HasSizes mb.now }
     requires residual { IsResidual mb.now }
     requires coded { terms.has_luma mb.now quarter ≡ true }
-    ensures writes { (mbs : List Mb) → StandsAt (λ mb. mb) shape.now done.now mbs at → OnOk result (Writes S.step (each 4 (layer.luma4 shape.now mbs at) (4 * quarter) (so_far 16 (64 * quarter) 0 0 mb.now)) (so_far 16 (64 * (quarter + 1)) 0 0 mb.now) s.old s.new) }
+    ensures writes { (mbs : List Mb) → IsReadAt shape.now done.now mbs at → OnOk result (Writes S.step (each 4 (layer.luma4 shape.now mbs at) (4 * quarter) (so_far 16 (64 * quarter) 0 0 mb.now)) (so_far 16 (64 * (quarter + 1)) 0 0 mb.now) s.old s.new) }
     ensures going { OnOk result (S.over s.new ≡ false) }
     ensures err { OnErr result (S.over s.new ≡ true) }
 {
@@ -257,7 +257,7 @@ fn write_quarter<S: BinSink>(
     requires quarter { quarter < 4 }
     requires sizes { HasSizes mb.now }
     requires residual { IsResidual mb.now }
-    ensures writes { (mbs : List Mb) → StandsAt (λ mb. mb) shape.now done.now mbs at → OnOk result (Writes S.step (layer.quarter shape.now mbs at quarter (so_far 16 (64 * quarter) 0 0 mb.now)) (so_far 16 (64 * (quarter + 1)) 0 0 mb.now) s.old s.new) }
+    ensures writes { (mbs : List Mb) → IsReadAt shape.now done.now mbs at → OnOk result (Writes S.step (layer.quarter shape.now mbs at quarter (so_far 16 (64 * quarter) 0 0 mb.now)) (so_far 16 (64 * (quarter + 1)) 0 0 mb.now) s.old s.new) }
     ensures going { OnOk result (S.over s.new ≡ false) }
     ensures err { OnErr result (S.over s.new ≡ true) }
 {
@@ -282,7 +282,7 @@ pub fn write_luma<S: BinSink>(
     requires picture { IsInPicture shape.now at }
     requires sizes { HasSizes mb.now }
     requires residual { IsResidual mb.now }
-    ensures writes { (mbs : List Mb) → StandsAt (λ mb. mb) shape.now done.now mbs at → OnOk result (Writes S.step (each 4 (layer.quarter shape.now mbs at) 0 (so_far 16 0 0 0 mb.now)) (so_far 16 256 0 0 mb.now) s.old s.new) }
+    ensures writes { (mbs : List Mb) → IsReadAt shape.now done.now mbs at → OnOk result (Writes S.step (each 4 (layer.quarter shape.now mbs at) 0 (so_far 16 0 0 0 mb.now)) (so_far 16 256 0 0 mb.now) s.old s.new) }
     ensures going { OnOk result (S.over s.new ≡ false) }
     ensures err { OnErr result (S.over s.new ≡ true) }
 {

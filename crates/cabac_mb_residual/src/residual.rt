@@ -1,7 +1,7 @@
 ghost use Rattle.std.specs.Prelude.{◌≡◌, false, true, option_map, OnOk, OnSome, OnErr, List};
 ghost use Rattle.binarisation.specs.BinString.{Reads, Writes};
 ghost use Rattle.h264_types.specs.Slice.{IsInPicture};
-ghost use Rattle.h264_types.specs.LastRows.{StandsAt};
+ghost use Rattle.cabac_contexts.specs.Terms.{IsReadAt};
 ghost use Rattle.h264_types.specs.declared.macroblock.Mb.{Mb};
 ghost use Rattle.cabac_mb_residual.specs.MacroblockResidual.{residual};
 ghost use Rattle.cabac_mb_residual.specs.Levels.{IsResidual, without_levels};
@@ -25,7 +25,7 @@ pub fn read_residual<S: BinSource>(
 ) -> Option<()>
     requires going { S.over s.old ≡ false }
     requires picture { IsInPicture shape.now at }
-    ensures reads { (mbs : List Mb) → StandsAt (λ mb. mb) shape.now done.now mbs at → Reads S.step (residual shape.now mbs at mb.old) (option_map (λ _. mb.new) result) s.old s.new }
+    ensures reads { (mbs : List Mb) → IsReadAt shape.now done.now mbs at → Reads S.step (residual shape.now mbs at mb.old) (option_map (λ _. mb.new) result) s.old s.new }
     ensures going { OnSome result (S.over s.new ≡ false) }
     ensures kind { mb.new.kind ≡ mb.old.kind }
 {
@@ -46,7 +46,7 @@ pub fn write_residual<S: BinSink>(
     requires going { S.over s.old ≡ false }
     requires picture { IsInPicture shape.now at }
     requires residual { IsResidual mb.now }
-    ensures writes { (mbs : List Mb) → StandsAt (λ mb. mb) shape.now done.now mbs at → OnOk result (Writes S.step (residual shape.now mbs at (without_levels mb.now)) mb.now s.old s.new) }
+    ensures writes { (mbs : List Mb) → IsReadAt shape.now done.now mbs at → OnOk result (Writes S.step (residual shape.now mbs at (without_levels mb.now)) mb.now s.old s.new) }
     ensures going { OnOk result (S.over s.new ≡ false) }
     ensures err { OnErr result (S.over s.new ≡ true) }
 {
