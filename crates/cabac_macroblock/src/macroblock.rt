@@ -43,7 +43,7 @@ fn read_elements<S: BinSource>(
 }
 
 /// Reads a macroblock of an I slice, its mb_type first, into the one that is lent. `done` has the last two rows of the slice's
-/// macroblocks, of which number `at` is the next one or the last one, in MBAFF in the pair of one of them; `field` is the flag
+/// macroblocks, of which all before number `at` are done and none behind it, in MBAFF none behind its pair; `field` is the flag
 /// of its pair, false outside MBAFF. Behind I_PCM no bin may be asked for, and its samples are left to be read. None where the
 /// source ran out, or an element is out of its range; what the macroblock then holds isn't said.
 pub fn read_macroblock<S: BinSource>(

@@ -13,8 +13,8 @@ use h264_types::{Mb, Rows, SliceShape, has_sizes};
 use std::alloc::AllocError as Memory;
 
 /// Reads the residual of a macroblock (7.3.5.3) that has its type, transform_size_8x8_flag and pattern, and whose levels are
-/// all 0. `done` has the last two rows of the slice's macroblocks, of which number `at` is the next one or the last one, in
-/// MBAFF in the pair of one of them. None where the source ran out, or a level is above 65535 in magnitude; what the macroblock
+/// all 0. `done` has the last two rows of the slice's macroblocks, of which all before number `at` are done and none behind it,
+/// in MBAFF none behind its pair. None where the source ran out, or a level is above 65535 in magnitude; what the macroblock
 /// then holds isn't said, but for its type.
 pub fn read_residual<S: BinSource>(
     s: &mut S,
