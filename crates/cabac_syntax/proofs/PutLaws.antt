@@ -5,11 +5,12 @@ use Rattle.std.specs.Int.{bit_at}
 use Rattle.std.proofs.lemmas.Bool.Decides.{nat_tests}
 use Rattle.binarisation.specs.BinString.{Writes}
 use Rattle.cabac_contexts.specs.Coders.{OutCoding, TakesBin}
+use Rattle.cabac_contexts.specs.Terms.{IsReadAt}
 use Rattle.cabac_macroblock.specs.MacroblockLayer.{macroblock_i, without_samples}
 use Rattle.cabac_mb_residual.specs.Levels.{IsResidual}
 use Rattle.h264_types.proofs.KindLaws.{unset, other_pattern}
 use Rattle.h264_types.specs.Kind.{is_intra, is_i_16x16}
-use Rattle.h264_types.specs.LastRows.{LastRows, StandsAt}
+use Rattle.h264_types.specs.LastRows.{LastRows}
 use Rattle.h264_types.specs.Macroblock.{quarter_of}
 use Rattle.h264_types.specs.Sent.{sends_t8}
 use Rattle.h264_types.specs.Valid.{IsMacroblock, is_kind_in}
@@ -91,7 +92,7 @@ put_residual shape mb form is intra = record {
 -- ---- its bins
 
 pub put_bins : (start : ℕ → ℕ × Bool) (kept shape : SliceShape) (rows : LastRows Mb) (before : List Bool) (done : List Mb) (Place : Type 0) (at : ℕ) (mb : Mb) (d e : OutCoding) → Stands kept rows shape done Place → HasRoom kept shape rows done Place at
-    → IsMacroblock kept mb → ((mbs : List Mb) → StandsAt (λ m. m) kept rows mbs at → Writes TakesBin (macroblock_i kept mbs at mb.field) (without_samples mb) d e)
+    → IsMacroblock kept mb → ((mbs : List Mb) → IsReadAt kept rows mbs at → Writes TakesBin (macroblock_i kept mbs at mb.field) (without_samples mb) d e)
     → Wrote start shape before (IsNext shape done) d → Wrote start shape before (IsPut shape done mb) e
 put_bins start kept shape rows before done Place at mb d e s room is writes w =
     let field : mb.field ≡ false = frame kept shape rows done Place mb s is in

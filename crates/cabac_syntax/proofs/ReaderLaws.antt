@@ -2,11 +2,12 @@
 use Rattle.std.proofs.Common.{◌≡◌, ℕ, ◌<◌, Bool, true, false, List, [], ◌∷◌, ◌++◌, length, Option, Some, None, refl, sym, ap, subst, ◌∙◌, append-nil, length-append, arith}
 use Rattle.binarisation.specs.BinString.{Reads}
 use Rattle.cabac_contexts.specs.Coders.{InCoding, GivesBin}
+use Rattle.cabac_contexts.specs.Terms.{IsReadAt}
 use Rattle.cabac_macroblock.specs.MacroblockLayer.{macroblock_i, without_samples, of_type}
 use Rattle.cabac_macroblock.proofs.ValidMacroblock.{pcm_valid}
 use Rattle.cabac_mb_residual.specs.Levels.{IsResidual}
 use Rattle.h264_types.specs.Kind.{is_i_pcm}
-use Rattle.h264_types.specs.LastRows.{LastRows, AreRows, StandsAt}
+use Rattle.h264_types.specs.LastRows.{LastRows, AreRows}
 use Rattle.h264_types.specs.Valid.{IsMacroblock}
 use Rattle.h264_types.specs.declared.macroblock.Mb.{Mb}
 use Rattle.h264_types.specs.declared.slice_shape.SliceShape.{SliceShape}
@@ -26,7 +27,7 @@ module _ (start : ℕ → ℕ × Bool) (kept shape : SliceShape) (rows : LastRow
 
   -- what was read beside the rows, whichever list these are of
   abbrev pub IsRead : ℕ → Option Mb → InCoding → InCoding → Type 0
-  IsRead at result d e = (mbs : List Mb) → StandsAt (λ mb. mb) kept rows mbs at → Reads GivesBin (macroblock_i kept mbs at false) result d e
+  IsRead at result d e = (mbs : List Mb) → IsReadAt kept rows mbs at → Reads GivesBin (macroblock_i kept mbs at false) result d e
 
   read_here : (at : ℕ) (result : Option Mb) (d e : InCoding) → IsBefore d → HasRoom kept shape rows done (Place d) at → IsRead at result d e → Reads GivesBin (bins_behind shape done) result d e
   read_here at result d e s room read =

@@ -2,8 +2,9 @@
 use Rattle.std.proofs.Common.{◌≡◌, ℕ, ◌+◌, ◌*◌, ◌<◌, true, false, List, [], ◌∷◌, ◌++◌, length, sym, subst, ◌∙◌, length-append, arith}
 use Rattle.std.specs.Prelude.{All}
 use Rattle.std.proofs.lemmas.List.Elements.{All-nil, All-push}
+use Rattle.cabac_contexts.specs.Terms.{IsReadAt}
 use Rattle.cabac_mb_residual.specs.Levels.{IsResidual}
-use Rattle.h264_types.specs.LastRows.{LastRows, AreRows, StandsAt}
+use Rattle.h264_types.specs.LastRows.{LastRows, AreRows}
 use Rattle.h264_types.specs.Valid.{IsMacroblock}
 use Rattle.h264_types.specs.declared.macroblock.Mb.{Mb}
 use Rattle.h264_types.specs.declared.slice_shape.SliceShape.{SliceShape}
@@ -15,13 +16,16 @@ module _ (kept shape : SliceShape) (rows : LastRows Mb) (done : List Mb) (Place 
   abbrev pub HasRoom : ℕ → Type 0
   HasRoom at = (at ≡ rows.count) × (kept.first + rows.count < kept.width * kept.height)
 
-  pub here : (at : ℕ) → Stands kept rows shape done Place → HasRoom at → StandsAt (λ mb. mb) kept rows done at
-  here at s room = record {
-    picture = omega (arith, room.0, room.1);
-    are = subst (λ (x : SliceShape). AreRows (λ mb. mb) x rows done) (sym s.of) s.rows_are;
-    before = (λ _. omega (arith, room.0), λ _. omega (arith, room.0));
-    behind = (λ _. omega (arith, room.0), λ _. omega (arith, room.0));
-  }
+  pub here : (at : ℕ) → Stands kept rows shape done Place → HasRoom at → IsReadAt kept rows done at
+  here at s room = (
+    record {
+      picture = omega (arith, room.0, room.1);
+      are = subst (λ (x : SliceShape). AreRows (λ mb. mb) x rows done) (sym s.of) s.rows_are;
+      before = (λ _. omega (arith, room.0), λ _. omega (arith, room.0));
+      behind = (λ _. omega (arith, room.0), λ _. omega (arith, room.0));
+    },
+    omega (arith, room.0, s.rows_are.counted),
+  )
 
   -- what is said of the shape that is kept, and of the number of the next macroblock, holds of this shape and list
   pub next_here : (P : SliceShape → ℕ → Type 0) (at : ℕ) → Stands kept rows shape done Place → HasRoom at → P kept at → P shape (length done)
