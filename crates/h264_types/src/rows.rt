@@ -116,7 +116,7 @@ impl<K: OfMb> Rows<K> {
     }
 
     /// The number to the left of that of the next macroblock or the last one, in MBAFF of the pair of one of them (6.4.9,
-    /// 6.4.10). None where the row or the slice begins.
+    /// 6.4.10). None where the row or the slice begins. Where `number` is none of these the answer isn't said.
     pub fn left_number(&self, number: u32) -> Option<u32>
         ensures value { IsNear self.now number → result ≡ slice.left_number self.now.width (unit_of self.now.mbaff self.now.first) number }
         ensures before { IfSome result (λ left. left + 1 ≡ number) }

@@ -7,7 +7,7 @@ use crate::slice_shape::SliceShape;
 
 /// The number to the left of `number` in rows of `width`, in the slice whose number 0 has the address `first`: for
 /// macroblocks outside MBAFF and for pairs alike (6.4.9, 6.4.10). None where the row or the slice begins.
-pub fn left_number(width: u32, first: u32, number: usize) -> Option<usize>
+pub(crate) fn left_number(width: u32, first: u32, number: usize) -> Option<usize>
     requires width { 0 < width }
     requires fits { first + number < 2 ^ 64 }
     ensures value { result ≡ slice.left_number width first number }
@@ -30,7 +30,7 @@ pub fn above_number(width: u32, number: usize) -> Option<usize>
 }
 
 /// mb_field_decoding_flag of a macroblock of the slice.
-pub fn is_field_at(mbs: &[Mb], number: usize) -> bool
+pub(crate) fn is_field_at(mbs: &[Mb], number: usize) -> bool
     requires { number < length mbs.now }
     ensures { result ≡ slice.field_at mbs.now number }
 {
@@ -38,7 +38,7 @@ pub fn is_field_at(mbs: &[Mb], number: usize) -> bool
 }
 
 /// Whether a macroblock of the slice is skipped.
-pub fn is_skipped_at(mbs: &[Mb], number: usize) -> bool
+pub(crate) fn is_skipped_at(mbs: &[Mb], number: usize) -> bool
     requires { number < length mbs.now }
     ensures { result ≡ slice.skipped_at mbs.now number }
 {
@@ -47,7 +47,7 @@ pub fn is_skipped_at(mbs: &[Mb], number: usize) -> bool
 
 /// mb_field_decoding_flag of a pair of the slice whose macroblocks are both skipped (7.4.4): that of the left pair in the
 /// slice, else of the pair above in the slice, else false. `mbs` has at least the macroblocks before the pair.
-pub fn inferred_field(shape: &SliceShape, mbs: &[Mb], pair: usize) -> bool
+pub(crate) fn inferred_field(shape: &SliceShape, mbs: &[Mb], pair: usize) -> bool
     requires picture { slice.IsInPicture shape.now (2 * pair) }
     requires before { 2 * pair ≤ length mbs.now }
     ensures { result ≡ slice.inferred_field shape.now mbs.now pair }

@@ -2,7 +2,7 @@
 ghost use Rattle.std.specs.Prelude.{◌≡◌, ℕ, ◌<◌, Bool, Some, List, ◌++◌};
 ghost use Rattle.h264_types.specs.declared.macroblock.Mb.{Mb};
 ghost use Rattle.h264_types.specs.declared.slice_shape.SliceShape.{SliceShape};
-ghost use Rattle.h264_types.specs.LastRows.{LastRows, StandsAt, IsRecent};
+ghost use Rattle.h264_types.specs.LastRows.{LastRows, StandsAt, IsAtHand};
 ghost use Rattle.h264_types.specs.Slice.{earlier};
 ghost use Rattle.mb_neighbours.specs.declared.place.At.{At};
 ghost use Rattle.mb_neighbours.specs.declared.place.Spot.{Spot};
@@ -21,10 +21,10 @@ pub fn neighbours_are_before()
     ensures above { (shape : SliceShape) (mbs : List Mb) (at : ℕ) (field : Bool) (place : At) (found : Spot) → 0 < shape.width → IsPlace place → above_of shape mbs at field place ≡ Some found → IsBefore found at place }
 {}
 
-/// What stands before macroblock `at` and the neighbours of a place of it aren't before the last two rows: where they
-/// aren't of its own pair in MBAFF, or it itself, they are held.
+/// The macroblock before `at` and those that have the neighbours of a place of it are `at` itself, in MBAFF of its pair,
+/// or held.
 pub fn neighbours_are_held<K>()
-    ensures before { (of : Mb → K) (shape : SliceShape) (rows : LastRows K) (mbs : List Mb) (at number : ℕ) → StandsAt of shape rows mbs at → earlier at 1 ≡ Some number → IsRecent rows number }
-    ensures left { (of : Mb → K) (shape : SliceShape) (rows : LastRows K) (mbs : List Mb) (at : ℕ) (field : Bool) (place : At) (found : Spot) → StandsAt of shape rows mbs at → left_of shape mbs at field place ≡ Some found → IsRecent rows found.mb }
-    ensures above { (of : Mb → K) (shape : SliceShape) (rows : LastRows K) (mbs : List Mb) (at : ℕ) (field : Bool) (place : At) (found : Spot) → StandsAt of shape rows mbs at → above_of shape mbs at field place ≡ Some found → IsRecent rows found.mb }
+    ensures before { (of : Mb → K) (shape : SliceShape) (rows : LastRows K) (mbs : List Mb) (at number : ℕ) → StandsAt of shape rows mbs at → earlier at 1 ≡ Some number → IsAtHand shape rows at number }
+    ensures left { (of : Mb → K) (shape : SliceShape) (rows : LastRows K) (mbs : List Mb) (at : ℕ) (field : Bool) (place : At) (found : Spot) → StandsAt of shape rows mbs at → left_of shape mbs at field place ≡ Some found → IsAtHand shape rows at found.mb }
+    ensures above { (of : Mb → K) (shape : SliceShape) (rows : LastRows K) (mbs : List Mb) (at : ℕ) (field : Bool) (place : At) (found : Spot) → StandsAt of shape rows mbs at → above_of shape mbs at field place ≡ Some found → IsAtHand shape rows at found.mb }
 {}
