@@ -1,6 +1,8 @@
 //! The neighbours in MBAFF by Table 6-4, and the pair flags that are inferred (7.4.4).
+ghost use Rattle.std.specs.Prelude.{◌<◌};
+
 use crate::spots::{is_place, is_spot, rows_of, shape, skipped};
-use h264_types::slice_order::inferred_field;
+use h264_types::{Mb, MbKind, valid};
 use mb_neighbours::{At, above, left};
 use std::test::Fail;
 
@@ -77,26 +79,44 @@ fn blocks_below_the_pair_above(rt: HostRuntime) -> Result<(), Fail> {
     Ok(())
 }
 
-/// In rows of two pairs: the flags of the pairs before, the pair that is skipped, and its flag.
-static INFERRED: [([bool; 3], usize, bool); 5] = [
+/// In rows of two pairs: the flags of four pairs, and which of them is skipped: its flag is inferred.
+static INFERRED: [([bool; 4], usize); 5] = [
     // a field pair to the left and a frame pair above; the other way round
-    ([false, false, true], 3, true),
-    ([true, true, false], 3, false),
+    ([false, false, true, true], 3),
+    ([true, true, false, false], 3),
     // no pair to the left, and a field pair above; a frame pair above
-    ([true, false, false], 2, true),
-    ([false, true, true], 2, false),
+    ([true, false, true, false], 2),
+    ([false, true, false, true], 2),
     // neither
-    ([true, true, true], 0, false),
+    ([false, true, true, true], 0),
 ];
+
+/// A macroblock of P_L0_16x16.
+fn coded(field: bool) -> Mb {
+    let mut mb = Mb::without_elements(MbKind::P(0));
+    mb.field = field;
+    mb
+}
+
+/// Coded pairs of these flags, but one of them skipped, with a flag of its own.
+fn with_skipped(flags: &[bool; 4], pair: usize, flag: bool) -> [Mb; 8]
+    requires { pair < 4 }
+{
+    let [first, second, third, fourth] = *flags;
+    let (first, second, third, fourth) = (coded(first), coded(second), coded(third), coded(fourth));
+    let mut mbs = [first, first, second, second, third, third, fourth, fourth];
+    mbs[2 * pair] = skipped(flag);
+    mbs[2 * pair + 1] = skipped(flag);
+    mbs
+}
 
 #[test]
 fn flags_of_skipped_pairs(rt: HostRuntime) {
     let shape = shape(2, 0, true);
-    for (flags, pair, wanted) in &INFERRED {
-        let [first, second, third] = *flags;
-        let (first, second, third) = (skipped(first), skipped(second), skipped(third));
-        let done = [first, first, second, second, third, third];
-        assert!(rt; *pair <= 3);
-        assert!(rt; inferred_field(&shape, &done, *pair) == *wanted);
+    for (flags, pair) in &INFERRED {
+        assert!(rt; *pair < 4);
+        let flag = flags[*pair];
+        assert!(rt; valid(&shape, &with_skipped(flags, *pair, flag)));
+        assert!(rt; !valid(&shape, &with_skipped(flags, *pair, !flag)));
     }
 }

@@ -1,5 +1,5 @@
 //! The last two rows of a slice's macroblocks.
-use crate::spots::{rows_of, skipped};
+use crate::spots::{rows_of, shape, skipped};
 use h264_types::{Mb, Rows, SliceKind, SliceShape};
 use std::test::Fail;
 
@@ -18,6 +18,12 @@ static SHAPE: SliceShape = SliceShape {
     qp: 26,
     column: 1,
 };
+
+fn with_delta(delta: i8) -> Mb {
+    let mut mb = skipped(false);
+    mb.qp_delta = delta;
+    mb
+}
 
 /// The mb_qp_delta of a macroblock that is kept.
 fn delta_at(rows: &Rows<Mb>, number: u32) -> Option<i8> {
@@ -39,11 +45,13 @@ static KEPT: [(u32, Option<i8>); 6] = [
 
 #[test]
 fn two_rows_of_two(rt: HostRuntime) -> Result<(), Fail> {
-    let mut mbs = [skipped(false); 5];
-    mbs[1].qp_delta = 1;
-    mbs[2].qp_delta = 2;
-    mbs[3].qp_delta = 3;
-    mbs[4].qp_delta = 4;
+    let mbs = [
+        with_delta(0),
+        with_delta(1),
+        with_delta(2),
+        with_delta(3),
+        with_delta(4),
+    ];
     assert!(rt; SHAPE.is_shape());
     let rows = rows_of(rt.alloc(), &SHAPE, &mbs)?;
     assert!(rt; rows.count() == 5);
@@ -54,5 +62,35 @@ fn two_rows_of_two(rt: HostRuntime) -> Result<(), Fail> {
     assert!(rt; rows.above() == Some(mbs[3]));
     assert!(rt; rows.left_number(4).is_none());
     assert!(rt; rows.left_number(5) == Some(4));
+    Ok(())
+}
+
+/// In MBAFF, in rows of one pair: of seven macroblocks the last four.
+static KEPT_OF_PAIRS: [(u32, Option<i8>); 6] = [
+    (2, None),
+    (3, Some(3)),
+    (4, Some(4)),
+    (5, Some(5)),
+    (6, Some(6)),
+    (7, None),
+];
+
+#[test]
+fn two_rows_of_one_pair(rt: HostRuntime) -> Result<(), Fail> {
+    let shape = shape(1, 0, true);
+    let mbs = [
+        with_delta(0),
+        with_delta(1),
+        with_delta(2),
+        with_delta(3),
+        with_delta(4),
+        with_delta(5),
+        with_delta(6),
+    ];
+    assert!(rt; shape.is_shape());
+    let rows = rows_of(rt.alloc(), &shape, &mbs)?;
+    for (number, delta) in &KEPT_OF_PAIRS {
+        assert!(rt; delta_at(&rows, *number) == *delta);
+    }
     Ok(())
 }
