@@ -4,8 +4,8 @@ use Rattle.std.proofs.lemmas.List.{length-replicate}
 use Rattle.std.proofs.lemmas.List.Elements.{All-weaker}
 use Rattle.h264_types.specs.declared.macroblock.Mb.{Mb}
 use Rattle.h264_types.specs.declared.slice_shape.SliceShape.{SliceShape}
-use Rattle.h264_types.specs.SliceShape.{IsSliceShape, without_column}
-use Rattle.h264_types.specs.Valid.{IsListSent, IsMacroblock}
+use Rattle.h264_types.specs.SliceShape.{without_column}
+use Rattle.h264_types.proofs.ColumnLaws.{column_slice}
 use Rattle.cavlc_macroblock.specs.Macroblock.{macroblock_text}
 use Rattle.cavlc_macroblock.specs.MacroblockLayer.{layer_text}
 use Rattle.cavlc_syntax.specs.SliceText.{IsNotBeyond, HasText, stop_text, run_text, last_run_text, coded_text, text_after, slice_text}
@@ -88,43 +88,12 @@ slice_of_both first second pos mbs same =
     text_column first pos [] 0 mbs ∙ ap (λ (s : SliceShape). text_after s pos [] 0 mbs) same ∙ sym (text_column second pos [] 0 mbs)
 
 -- the lists that have a text rest on no column, either
-column_list : (shape : SliceShape) (mb : Mb) (x column : ℕ) → IsListSent shape mb x → IsListSent (record shape { column = column }) mb x
-column_list shape mb x column is = record { refs = is.refs; refs_repeat = is.refs_repeat; mvd = is.mvd; mvd_repeat = is.mvd_repeat }
-
-column_macroblock : (shape : SliceShape) (column : ℕ) (mb : Mb) → IsMacroblock shape mb → IsMacroblock (record shape { column = column }) mb
-column_macroblock shape column mb is = record {
-  sizes = is.sizes;
-  typed = record { kind = is.typed.kind; ref0 = is.typed.ref0; field = is.typed.field; t8 = is.typed.t8 };
-  intra = is.intra;
-  inter = record { subs = is.inter.subs; l0 = column_list shape mb 0 column is.inter.l0; l1 = column_list shape mb 1 column is.inter.l1 };
-  coded = is.coded;
-}
-
-column_shape : (shape : SliceShape) (column : ℕ) → column ≤ 3 → IsSliceShape shape → IsSliceShape (record shape { column = column })
-column_shape shape column h is = record {
-  some = is.some;
-  width = is.width;
-  size = is.size;
-  pairs = is.pairs;
-  profile = is.profile;
-  qp = is.qp;
-  column = h;
-  l0 = record { some = is.l0.some; few = is.l0.few };
-  l1 = record { some = is.l1.some; few = is.l1.few };
-}
-
 column_text : (shape : SliceShape) (column : ℕ) (mbs : List Mb) → column ≤ 3 → HasText shape mbs → HasText (record shape { column = column }) mbs
 column_text shape column mbs h has =
     let other : SliceShape = record shape { column = column } in
     record {
       built = record { mbaff = has.built.mbaff };
-      slice = record {
-        is_shape = column_shape shape column h has.slice.is_shape;
-        some = has.slice.some;
-        inside = has.slice.inside;
-        macroblocks = All-weaker (IsMacroblock shape) (IsMacroblock other) (column_macroblock shape column) mbs has.slice.macroblocks;
-        pairs = λ mbaff. let no : shape.mbaff ≡ false = has.built.mbaff in absurd cc;
-      };
+      slice = column_slice shape column mbs h has.slice;
       within = All-weaker (IsNotBeyond shape) (IsNotBeyond other) (λ mb h. h) mbs has.within;
     }
 

@@ -223,15 +223,15 @@ no_copy HasData IsData to shape pos left NoReading h = (refl, h)
 
 module _ {W S : Type 0} (HasData : SliceShape → List Mb → Type 0) (IsData IsWritten : SliceShape → ℕ → List Mb → List Bool → Type 0) (Writes : W → SliceShape → List Bool → List Mb → Type 0) (bits : S → List Bool) (to : Layer) where
   -- the end of the data that were read
-  pub data_ended : (writer : W) (shape : SliceShape) (pos : ℕ) (all before : List Bool) (done : List Mb) (stop : Option (Case × ℕ)) (count : ℕ) (result : Result (S × ℕ) RewriteFault) → HasData shape done
-      → IsData shape pos done all → least_stop to shape done ≡ stop → (stop ≡ None → Writes writer shape before (map (written_mb to) done)) → length done ≡ count → Ends Writes IsWritten bits writer stop count result
-      → IfOk result (λ copy. IsCopy HasData IsData IsWritten to shape pos all before (bits copy.0) copy.1)
-  data_ended writer shape pos all before done None count (Ok copy) has read stop_is writes counted e =
-      let put = e.1 shape before (map (written_mb to) done) (writes refl) in
+  pub data_ended : (writer : W) (shape written_shape : SliceShape) (pos : ℕ) (all before : List Bool) (done : List Mb) (stop : Option (Case × ℕ)) (count : ℕ) (result : Result (S × ℕ) RewriteFault) → HasData shape done
+      → IsData shape pos done all → least_stop to shape done ≡ stop → (stop ≡ None → Writes writer written_shape before (map (written_mb to) done)) → length done ≡ count → Ends Writes IsWritten bits writer stop count result
+      → IfOk result (λ copy. IsCopy HasData IsData IsWritten to shape written_shape pos all before (bits copy.0) copy.1)
+  data_ended writer shape written_shape pos all before done None count (Ok copy) has read stop_is writes counted e =
+      let put = e.1 written_shape before (map (written_mb to) done) (writes refl) in
       record { mbs = done; list = has; read = read; goes_on = stop_is; text = put.0; is_text = put.1; written = put.2; counted = e.0 ∙ sym counted }
-  data_ended writer shape pos all before done None count (Err fault) has read stop_is writes counted e = tt
-  data_ended writer shape pos all before done (Some stop) count (Ok copy) has read stop_is writes counted e = absurd cc
-  data_ended writer shape pos all before done (Some stop) count (Err fault) has read stop_is writes counted e = tt
+  data_ended writer shape written_shape pos all before done None count (Err fault) has read stop_is writes counted e = tt
+  data_ended writer shape written_shape pos all before done (Some stop) count (Ok copy) has read stop_is writes counted e = absurd cc
+  data_ended writer shape written_shape pos all before done (Some stop) count (Err fault) has read stop_is writes counted e = tt
 
   pub data_stopped : (writer : W) (shape : SliceShape) (pos : ℕ) (all : List Bool) (done : List Mb) (stop : Option (Case × ℕ)) (count : ℕ) (result : Result (S × ℕ) RewriteFault) → HasData shape done
       → IsData shape pos done all → least_stop to shape done ≡ stop → Ends Writes IsWritten bits writer stop count result → IfErr result (IsNoCopy HasData IsData to shape pos all)
@@ -253,7 +253,7 @@ not_copied Cavlc sets header bits s (Stop case k) e r none =
 not_copied Cavlc sets header bits s Memory e r none = tt
 
 pub copied : (to : Layer) (number : ℕ) (sets : SetMaps) (header : ℕ) (bits : List Bool) (s : OpenSlice) (start out after : List Bool) (payload : List ℕ) (count : ℕ) → mode_flag_of to ≡ false → IsOpened to sets header bits s → start ≡ []
-    → Appended start out (header_text (active_in to number (sets_in s)) (header_in to number 0 s.header)) → IsCopy HasText IsText IsText Cavlc s.shape (length s.bits.taken) s.bits.left out after count → bits_of payload ≡ after → IsSliceForm to number sets header bits payload count
+    → Appended start out (header_text (active_in to number (sets_in s)) (header_in to number 0 s.header)) → IsCopy HasText IsText IsText Cavlc s.shape s.shape (length s.bits.taken) s.bits.left out after count → bits_of payload ≡ after → IsSliceForm to number sets header bits payload count
 copied Cabac number sets header bits s start out after payload count e r none put k bytes = is_cavlc e
 copied Cavlc number sets header bits s start out after payload count e r none put k bytes = record {
   slice = coded (sets_in s) s.header k.mbs;

@@ -10,9 +10,10 @@ use Rattle.h264_types.specs.declared.layer.Layer.{Layer}
 use Rattle.h264_types.specs.declared.layer.Layer.TheVariants.{Cavlc, Cabac}
 use Rattle.h264_types.specs.declared.macroblock.Mb.{Mb}
 use Rattle.h264_types.specs.declared.slice_shape.SliceShape.{SliceShape}
+use Rattle.h264_types.specs.SliceShape.{without_column}
 use Rattle.h264_types.specs.Valid.{IsMacroblock}
 use Rattle.pattern_fix.specs.NormalPattern.{IsEmptied}
-use Rattle.slice_rewrite.specs.Stops.{is_emptied, is_beyond_in, mb_stop, stop_or, stop_from, least_stop}
+use Rattle.slice_rewrite.specs.Stops.{is_emptied, is_level_beyond, is_beyond_in, mb_stop, stop_or, stop_from, least_stop}
 use Rattle.slice_data.specs.WrittenForm.{written_mb}
 use Rattle.slice_rewrite.proofs.Normal.{emptied_is, written_is_within}
 
@@ -50,6 +51,15 @@ pub stops_by_levels : (to : Layer) (shape : SliceShape) (mb : Mb) (beyond : Bool
 stops_by_levels to shape mb beyond kept e =
     ap (λ b. if b then Some Empty else (if is_beyond_in to shape mb then Some Level else None)) (not_emptied mb (is_emptied mb) refl kept) ∙ ap (λ b. if b then Some Level else None) e
 
+-- no stop rests on the column
+level_of_both : (to : Layer) (first second : SliceShape) (mb : Mb) → without_column first ≡ without_column second → is_level_beyond to first mb ≡ is_level_beyond to second mb
+level_of_both Cavlc first second mb same = ap (λ (s : SliceShape). is_beyond_mb (prefix_bound s) mb) same
+level_of_both Cabac first second mb same = refl
+
+pub stop_of_both : (to : Layer) (first second : SliceShape) (mb : Mb) → without_column first ≡ without_column second → mb_stop to first mb ≡ mb_stop to second mb
+stop_of_both to first second mb same =
+    ap (λ b. if is_emptied mb then Some Empty else (if b then Some Level else None)) (level_of_both to first second (written_mb to mb) same)
+
 -- ## Lists
 
 -- behind macroblocks that can be written, those that follow tell
@@ -73,6 +83,9 @@ stop_kept to shape k (mb ∷ xs) ys stop e = by (λ f. stop_kept to shape (k + 1
 -- one macroblock more
 pub stop_next : (to : Layer) (shape : SliceShape) (done : List Mb) (mb : Mb) (stop : Option Case) → least_stop to shape done ≡ None → mb_stop to shape mb ≡ stop → least_stop to shape (done ++ mb ∷ []) ≡ stop_or stop (length done) None
 stop_next to shape done mb stop e f = stop_behind to shape 0 done (mb ∷ []) e ∙ ap (λ n. stop_from to shape n (mb ∷ [])) (omega arith) ∙ ap (λ s. stop_or s (length done) None) f
+
+pub not_none : (stop : Case × ℕ) → Some stop ≡ None → ⊥
+not_none stop e = absurd cc
 
 pub none_of : (stop : Option (Case × ℕ)) → is_some stop ≡ false → stop ≡ None
 none_of None e = refl

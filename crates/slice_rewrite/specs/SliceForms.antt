@@ -1,5 +1,5 @@
 -- What is written for a slice, and why nothing is.
-use Rattle.std.specs.Prelude.{◌≡◌, ℕ, Bool, false, List, [], ◌∷◌, ◌++◌, length, map, Option, Some, None, Result, Ok, Err}
+use Rattle.std.specs.Prelude.{◌≡◌, ℕ, Bool, false, List, [], ◌∷◌, ◌++◌, ◌≤◌, length, map, Option, Some, None, Result, Ok, Err}
 use Rattle.std.specs.declared.alloc.AllocError.{AllocError}
 use Rattle.bit_texts.specs.Bits.{bits_of}
 use Rattle.cavlc_syntax.specs.SliceText.{IsBuilt}
@@ -9,6 +9,7 @@ use Rattle.h264_types.specs.declared.fault.Why.TheVariants.{Slice as BadSlice}
 use Rattle.h264_types.specs.declared.layer.Layer.{Layer}
 use Rattle.h264_types.specs.declared.layer.Layer.TheVariants.{Cavlc}
 use Rattle.h264_types.specs.declared.macroblock.Mb.{Mb}
+use Rattle.h264_types.specs.SliceShape.{without_column}
 use Rattle.h264_types.specs.declared.slice_shape.SliceShape.{SliceShape}
 use Rattle.param_sets.specs.PpsCodes.{IsPps}
 use Rattle.param_sets.specs.Sets.{SetMaps}
@@ -90,16 +91,17 @@ IsNotWritten to s (Stop case k) = slice_stop to s ≡ Some (case, k)
 IsNotWritten to s Memory = Unit {0}
 
 -- ## Slice data, of any layer and for any layer. Of the layer that is read `HasData` says which lists of macroblocks have data,
--- and `IsData` which bits these are, with so many before them; of the layer that is written `IsWritten` does.
+-- and `IsData` which bits these are, with so many before them; of the layer that is written `IsWritten` does. The shapes that a
+-- slice is read and written in differ at most in their columns.
 
 -- the bits left, with so many before them, are the data of a slice that can be written, which were written again behind others
-pub record IsCopy (HasData : SliceShape → List Mb → Type 0) (IsData IsWritten : SliceShape → ℕ → List Mb → List Bool → Type 0) (to : Layer) (shape : SliceShape) (pos : ℕ) (left before after : List Bool) (count : ℕ) : Type 0 where
+pub record IsCopy (HasData : SliceShape → List Mb → Type 0) (IsData IsWritten : SliceShape → ℕ → List Mb → List Bool → Type 0) (to : Layer) (shape written_shape : SliceShape) (pos : ℕ) (left before after : List Bool) (count : ℕ) : Type 0 where
   pub mbs : List Mb
   pub list : HasData shape mbs
   pub read : IsData shape pos mbs left
   pub goes_on : least_stop to shape mbs ≡ None
   pub text : List Bool
-  pub is_text : IsWritten shape (length before) (map (written_mb to) mbs) text
+  pub is_text : IsWritten written_shape (length before) (map (written_mb to) mbs) text
   pub written : after ≡ before ++ text
   pub counted : count ≡ length mbs
 
@@ -135,12 +137,17 @@ Ends Writes IsWritten bits writer None count (Ok copy) = (copy.1 ≡ count)
 Ends Writes IsWritten bits writer None count (Err fault) = fault ≡ Memory
 Ends Writes IsWritten bits writer (Some stop) count result = result ≡ Err (Stop stop.0 stop.1)
 
--- what putting a macroblock in its written form says: it was put, or it can't be written, or there is no memory
+-- what putting a macroblock in its written form says: it was put, or it can't be written and wasn't, or there is no memory
 abbrev pub PutsWritten : {W : Type 0} → (W → SliceShape → List Bool → List Mb → Type 0) → Layer → W → SliceShape → List Bool → List Mb → Mb → Result (Option Case) AllocError → Type 0
 PutsWritten Writes to new shape before done mb (Ok None) = (mb_stop to shape mb ≡ None) × Writes new shape before (done ++ written_mb to mb ∷ [])
-PutsWritten Writes to new shape before done mb (Ok (Some case)) = mb_stop to shape mb ≡ Some case
+PutsWritten Writes to new shape before done mb (Ok (Some case)) = (mb_stop to shape mb ≡ Some case) × Writes new shape before done
 PutsWritten Writes to new shape before done mb (Err fault) = Unit {0}
 
 -- of a writer that can't say the levels that its layer can't
 abbrev pub StopsIn : Layer → (SliceShape → Mb → Bool) → Type 0
 StopsIn to is_beyond = (shape : SliceShape) (mb : Mb) → is_beyond shape mb ≡ is_level_beyond to shape mb
+
+-- the shape of the same slice, but for the column of the contexts of CABAC
+pub record IsOtherColumn (shape other : SliceShape) : Type 0 where
+  pub same : without_column shape ≡ without_column other
+  pub column : other.column ≤ 3

@@ -15,7 +15,7 @@ use pattern_fix::normalise;
 use slice_data::{PutFault, SliceWriter};
 use std::alloc::AllocError as Memory;
 
-/// Puts a macroblock in its written form, which it is left in. Some: why it can't be written; it wasn't put.
+/// Puts a macroblock in its written form. Some: why it can't be written; it wasn't put. What `mb` holds then isn't said.
 pub fn put_written<W: SliceWriter>(writer: &mut W, mb: &mut Mb) -> Result<Option<Case>, Memory>
     requires levels { StopsIn W.LAYER W.is_beyond }
     requires next { (IsEmptied mb.old → ⊥) → MayPut W.LAYER W.writes writer.old (written_mb W.LAYER mb.old) }

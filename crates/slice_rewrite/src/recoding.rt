@@ -2,9 +2,10 @@
 ghost use Rattle.std.specs.Prelude.{[], ℕ, List, Bool, IfOk, IfErr};
 ghost use Rattle.bit_texts.specs.Bits.{bits_of};
 ghost use Rattle.h264_types.specs.SliceShape.{IsSliceShape};
+ghost use Rattle.h264_types.specs.declared.slice_shape.SliceShape.{SliceShape};
 ghost use Rattle.param_sets.specs.Sets.{SetMaps};
 ghost use Rattle.init_table.specs.declared.table.InitTable.{InitTable};
-ghost use Rattle.slice_rewrite.specs.SliceForms.{Ends, IsOpened, IsSliceForm, IsSliceRefusal, IsCopy, IsNoCopy, StopsIn};
+ghost use Rattle.slice_rewrite.specs.SliceForms.{Ends, IsOpened, IsSliceForm, IsSliceRefusal, IsCopy, IsNoCopy, IsOtherColumn, StopsIn};
 
 use crate::fault::RewriteFault;
 use crate::opening::{OpenSlice, open_slice};
@@ -67,9 +68,9 @@ fn copy_data<R: SliceReader, W: SliceWriter>(
 ) -> Result<(W::Sink, u32), RewriteFault>
     requires shape { IsSliceShape shape }
     requires levels { StopsIn W.LAYER W.is_beyond }
-    requires stand { (init : InitTable) × (pos : ℕ) × (left before : List Bool) × R.stands init reader shape pos left [] × W.writes init writer shape before [] }
-    ensures ok { (init : InitTable) (pos : ℕ) (left before : List Bool) → R.stands init reader shape pos left [] → W.writes init writer shape before [] →
-        IfOk result (λ copy. IsCopy R.has_data (R.is_data init) (W.is_data init) W.LAYER shape pos left before (W.Sink.bits copy.0) copy.1) }
+    requires stand { (init : InitTable) × (written_shape : SliceShape) × (pos : ℕ) × (left before : List Bool) × IsOtherColumn shape written_shape × R.stands init reader shape pos left [] × W.writes init writer written_shape before [] }
+    ensures ok { (init : InitTable) (written_shape : SliceShape) (pos : ℕ) (left before : List Bool) → IsOtherColumn shape written_shape → R.stands init reader shape pos left [] → W.writes init writer written_shape before [] →
+        IfOk result (λ copy. IsCopy R.has_data (R.is_data init) (W.is_data init) W.LAYER shape written_shape pos left before (W.Sink.bits copy.0) copy.1) }
     ensures err { (init : InitTable) (pos : ℕ) (left : List Bool) → R.stands init reader shape pos left [] → IfErr result (IsNoCopy R.has_data (R.is_data init) W.LAYER shape pos left) }
 {
     let mut mb = Mb::without_elements(MbKind::Skip);

@@ -27,6 +27,6 @@ returns-in-Err-Beyond g c init shape before done w =
     let same = same_written to c.args.mb.now c.normalise.new.mb c.is_ref0_in-mb.result c.in-Ok.ensures.normal (c.is_ref0_in-mb.ensures ∙ ap (λ l. has_ref0 l && is_ref0 c.normalise.new.mb) c.LAYER.ensures) in
     let now : Mb = record c.normalise.new.mb { ref0 = c.is_ref0_in-mb.result } in
     let Q : PutFault → Type 0 = λ fault. PutGives g.W.SliceWriter.is_beyond (g.W.SliceWriter.writes init) c.put.new.self shape before done now (Err fault) in
-    let beyond = (subst Q c.in-Err-Beyond.field-0-is (c.in-Err-Beyond.ensures init shape before done w)).0 in
+    let put = subst Q c.in-Err-Beyond.field-0-is (c.in-Err-Beyond.ensures init shape before done w) in
     let B : Mb → Type 0 = λ m. is_level_beyond to shape m ≡ true in
-    stops_by_levels to shape c.args.mb.now true (λ gone. false≢true (c.in-Ok.ensures.emptied.1 gone)) (subst B same (sym (c.requires.levels shape now) ∙ beyond))
+    (stops_by_levels to shape c.args.mb.now true (λ gone. false≢true (c.in-Ok.ensures.emptied.1 gone)) (subst B same (sym (c.requires.levels shape now) ∙ put.0)), put.1)

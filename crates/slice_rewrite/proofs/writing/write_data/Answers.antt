@@ -44,7 +44,7 @@ returns-in-Some-clause-err g c =
     let writes = c.requires.writes in
     let done = map (written_mb to) (take c.loop-k.k c.args.mbs.now) in
     let put = c.in_ok-case.ensures writes.0 c.args.shape writes.1 done (inv.writes writes.0 writes.1 writes.2) in
-    stops_at to c.args.shape c.args.mbs.now c.loop-k.k nothing c.in-Some.case c.loop-k-test.true inv.goes_on (rw c.in-Some.is at put)
+    stops_at to c.args.shape c.args.mbs.now c.loop-k.k nothing c.in-Some.case c.loop-k-test.true inv.goes_on (rw c.in-Some.is at put).0
 
 pub loop-k-preserved : goal.loop-k-preserved
 loop-k-preserved g c =
