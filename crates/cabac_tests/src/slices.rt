@@ -1,13 +1,16 @@
-//! The data of I slices in CABAC (7.3.4): how many macroblocks are read, with which samples, and where there is no reading.
-ghost use Rattle.std.specs.Prelude.{IsTrue};
+//! The data of I slices in CABAC (7.3.4): how many macroblocks are read, with which samples, where there is no reading, and
+//! what is written.
+ghost use Rattle.std.specs.Prelude.{◌≡◌, false, All, IsTrue};
+ghost use Rattle.h264_types.specs.Valid.{IsSlice};
 ghost use Rattle.cabac_syntax.specs.SliceData.{IsBuiltShape};
 
-use cabac_syntax::CabacReader;
-use exp_golomb::{BitSource, SliceBits};
-use h264_types::{SliceKind, SliceShape};
+use crate::segments::filled;
+use cabac_syntax::{CabacReader, CabacWriter};
+use exp_golomb::{BitSink, BitSource, BitVec, SliceBits};
+use h264_types::{Mb, MbKind, SliceKind, SliceShape, valid};
 use init_table::InitTable;
-use slice_data::{SliceFault, SliceReader, Step};
-use std::alloc::Global;
+use slice_data::{SliceFault, SliceReader, SliceWriter, Step};
+use std::alloc::{AllocError as Memory, Global};
 use std::test::Fail;
 
 /// An I slice that begins a picture of one row.
@@ -155,6 +158,55 @@ fn data_of_slices(rt: HostRuntime) -> Result<(), Fail> {
         assert_eq!(rt; bits.bit(), Some(true));
         let mut reader = CabacReader::start(rt.alloc(), shape, &init, bits)?;
         assert_eq!(rt; count(&mut reader), (*given, *sampled, *fault));
+    }
+    Ok(())
+}
+
+/// No macroblock has the 8x8 transform, nor is P_8x8ref0: they have the form in which they are written.
+fn are_plain(mbs: &[Mb]) -> bool
+    ensures { IsTrue result → All (λ mb. (mb.t8 ≡ false) × (mb.ref0 ≡ false)) mbs.now }
+{
+    mbs.iter().all(|mb| !mb.t8 && !mb.ref0)
+}
+
+/// The bytes of slice data behind one bit.
+fn written(
+    alloc: Global,
+    shape: SliceShape,
+    init: &InitTable,
+    mbs: &[Mb],
+) -> Result<Option<Vec<u8>>, Memory>
+    requires built { IsBuiltShape shape }
+    requires slice { IsSlice shape mbs.now }
+    requires plain { All (λ mb. (mb.t8 ≡ false) × (mb.ref0 ≡ false)) mbs.now }
+{
+    let mut bits = BitVec::new(alloc);
+    bits.put(true)?;
+    let mut writer = CabacWriter::start(alloc, shape, init, bits)?;
+    for mb in mbs {
+        let Ok(()) = writer.put(mb) else {
+            return Err(Memory);
+        };
+    }
+    filled(writer.finish()?)
+}
+
+#[test]
+fn data_of_slices_are_written(rt: HostRuntime) -> Result<(), Fail> {
+    let Ok(init) = InitTable::of("flat") else {
+        return Err("no table")?;
+    };
+    let flat = Mb::without_elements(MbKind::Intra(3));
+    let mut sampled = Mb::without_elements(MbKind::Intra(25));
+    sampled.pcm = [0x80; 384];
+    let rows: [(u32, &[Mb], usize); 2] = [(1, &[flat], 0), (3, &[sampled; 3], 9)];
+    for (width, mbs, place) in &rows {
+        let shape = row(*width);
+        assert!(rt; is_built(&shape) && valid(&shape, mbs) && are_plain(mbs));
+        let (_, runs, _, _, _) = &DATA[*place];
+        let bytes = bytes_of(rt.alloc(), runs)?;
+        let found = written(rt.alloc(), shape, &init, mbs)?;
+        assert!(rt; found.is_some_and(|found| found.as_slice() == bytes.as_slice()));
     }
     Ok(())
 }
