@@ -9,9 +9,10 @@ use Rattle.slice_rewrite.specs.Written.{output}
 use Rattle.slice_rewrite.specs.View.{Reads, CanBeWritten, SaysTheSame}
 use Rattle.slice_rewrite.proofs.Headline.{reads-recoded, recodes-read, recodes-writable, says-the-same}
 use Rattle.recode_run.specs.declared.status.Status.{Status}
-use Rattle.recode_run.specs.declared.status.Status.TheVariants.{Ok as Done}
+use Rattle.recode_run.specs.declared.status.Status.TheVariants.{Ok as Done, BadTable}
 use Rattle.recode_run.specs.Headline.{IsInScope, IsHeadline}
-use Rattle.recode_run.specs.Run.{plan_to, IsNoReport, Leaves, IsTold, IsDue, IsExact}
+use Rattle.recode_run.specs.Run.{plan_to, IsNoReport, Leaves, LeavesBy, IsTold, IsDueTo, IsExact}
+use Rattle.recode_run.specs.Words.{Request, IsTable}
 use Rattle.recode_run.proofs.Told.{judged-all}
 
 -- the answer was not replaced
@@ -29,22 +30,29 @@ passed to bound b left' held held' h =
     let recodes = subst P whole h.2.1 in
     (h.1, h.0, (h.2.0, output (plan_to to) (seen_whole b).units h.2.0, reads-recoded (plan_to to) b h.2.0 recodes, recodes-writable (plan_to to) b h.2.0 recodes, subst A whole h.2.2, says-the-same (plan_to to) b h.2.0 refl recodes))
 
-told_done : (to : Layer) (bound : ℕ) (b : List ℕ) (left' held held' : Option (List ℕ)) (answer : Status) → IsTold (Some to) bound (Some b) left' held held' answer → answer ≡ Done → Leaves (plan_to to) bound b left' held held' Done
-told_done to bound b left' held held' answer told e =
-    let P : Status → Type 0 = λ a. (a ≡ told.0) ⊎ IsNoReport a in
-    let L : Status → Type 0 = Leaves (plan_to to) bound b left' held held' in
-    subst L (not_replaced told.0 (subst P e told.2)) told.1
+told_done : (asked : Request) (bound : ℕ) (b : List ℕ) (left' held held' : Option (List ℕ)) (answer : Status) → IsTold (Some asked) bound (Some b) left' held held' answer → answer ≡ Done → IsTable asked.table × Leaves (plan_to asked.to) bound b left' held held' Done
+told_done asked bound b left' held held' answer told e = by (subst L (not_replaced told.0 (subst P e told.2)) told.1)
+  where
+    P : Status → Type 0
+    P a = (a ≡ told.0) ⊎ IsNoReport a
 
-due_done : (to : Layer) (bound : ℕ) (b : List ℕ) → IsInScope to bound b → IsDue (Some to) bound b Done
+    L : Status → Type 0
+    L = LeavesBy (Some asked) bound b left' held held'
+
+    by : LeavesBy (Some asked) bound b left' held held' Done → IsTable asked.table × Leaves (plan_to asked.to) bound b left' held held' Done
+    by (inl bad) = absurd (let no : Done ≡ BadTable bad.0.0 = bad.0.2 in cc)
+    by (inr ran) = ran
+
+due_done : (to : Layer) (bound : ℕ) (b : List ℕ) → IsInScope to bound b → IsDueTo to bound b Done
 due_done to bound b scope =
     let P : Seen → Type 0 = λ s. Recodes (plan_to to) s scope.1.0 None in
     (scope.0, (scope.1.0, subst P (sym (judged-all bound b scope.0)) (recodes-read (plan_to to) b scope.1.0 refl scope.1.1 scope.1.2)))
 
-pub is_headline : (layer : Option Layer) (bound : ℕ) (left left' held held' : Option (List ℕ)) (answer : Status) → IsTold layer bound left left' held held' answer → IsExact layer bound left answer → IsHeadline layer bound left left' held held' answer
-is_headline (Some to) bound (Some b) left' held held' answer told exact = record {
-  ok = λ e. passed to bound b left' held held' (told_done to bound b left' held held' answer told e);
-  in_scope = λ scope. exact Done (due_done to bound b scope);
+pub is_headline : (asked : Option Request) (bound : ℕ) (left left' held held' : Option (List ℕ)) (answer : Status) → IsTold asked bound left left' held held' answer → IsExact asked bound left answer → IsHeadline asked bound left left' held held' answer
+is_headline (Some asked) bound (Some b) left' held held' answer told exact = record {
+  ok = λ e. let done = told_done asked bound b left' held held' answer told e in let is = passed asked.to bound b left' held held' done.1 in (done.0, is.0, is.1, is.2);
+  in_scope = λ table scope. exact Done (inr (table, due_done asked.to bound b scope));
 }
 is_headline None bound (Some b) left' held held' answer told exact = tt
-is_headline (Some to) bound None left' held held' answer told exact = tt
+is_headline (Some asked) bound None left' held held' answer told exact = tt
 is_headline None bound None left' held held' answer told exact = tt

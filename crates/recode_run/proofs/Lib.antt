@@ -2,6 +2,7 @@ pub mod Puts
 pub mod Feeding
 pub mod Reading
 pub mod Flush
+pub mod Tables
 pub mod Told
 pub mod Due
 pub mod WholeLine

@@ -4,7 +4,7 @@ use Rattle.std.specs.Prelude.{Option, Some, None}
 use Rattle.std.proofs.lemmas.Bool.Decides.{nat_tests}
 use Rattle.std.proofs.lemmas.List.{append_cancel_right, take-append-drop, take-append-le}
 use Rattle.std.proofs.Math.Seq.{take-append-add}
-use Rattle.std.specs.Io.KnownBytes.{Appends, Consumes, IsAtEnd}
+use Rattle.std.specs.Io.KnownBytes.{Appends, Consumes, Keeps, IsAtEnd}
 use Rattle.h264_types.specs.declared.layer.Layer.{Layer}
 use Rattle.h264_types.specs.declared.fault.Stopped.{Stopped}
 use Rattle.h264_types.specs.declared.fault.Stopped.TheVariants.{Stop as StopAt, Outside as OutsideAt, Memory as NoMemory}
@@ -18,11 +18,13 @@ use Rattle.slice_rewrite.specs.Items.{Item}
 use Rattle.slice_rewrite.specs.Verdict.{Judges, Recodes}
 use Rattle.slice_rewrite.specs.Written.{output}
 use Rattle.recode_run.specs.Report.{Reports}
-use Rattle.recode_run.specs.Run.{plan_to, RunEnds, IsPartlyWritten, EndsEarly, Ran, IsNoReport, RunAnswers, judged, IsFront, StopsAt, Passes, Leaves, LeavesBy, IsTold, IsDue, IsFault, IsExact, IsPromptFor, IsPrompt}
+use Rattle.recode_run.specs.Words.{Request}
+use Rattle.recode_run.specs.Run.{plan_to, RunEnds, IsPartlyWritten, EndsEarly, IsBadTable, Ran, IsNoReport, RunAnswers, judged, IsFront, StopsAt, Passes, Leaves, LeavesBy, IsTold, IsDueTo, IsDue, IsFault, IsExact, IsPromptFor, IsPrompt}
 use Rattle.slice_rewrite.proofs.Judging.{one-verdict, verdict-stays}
 use Rattle.stream_recoder.proofs.Outputs.{output-same, output-front, output-stays}
 use Rattle.recode_run.proofs.Reading.{appends-at}
-use Rattle.recode_run.proofs.Flush.{partly}
+use Rattle.recode_run.proofs.Flush.{partly, ends-kept, none_begun}
+use Rattle.recode_run.proofs.Tables.{table-stands, fails-once}
 
 -- ## What is judged
 
@@ -148,11 +150,15 @@ told o bound b left' held held' account BadWords h = absurd h
 told o bound b left' held held' account ReportFault h = absurd h
 told o bound b left' held held' account (BadTable at) h = absurd h
 
+kept_left : (b : List ℕ) (left' : Option (List ℕ)) → Keeps (Some b) left' → left' ≡ Some b
+kept_left b None h = absurd h
+kept_left b (Some c) h = ap (λ v. Some v) h
+
 -- what is left, whatever the words
-pub left_by : (layer : Option Layer) (bound : ℕ) (b : List ℕ) (left' held held' : Option (List ℕ)) (account : Account) (status : Status) → Ran layer bound (Some b) left' held held' account status → LeavesBy layer bound b left' held held' status
-left_by (Some layer) bound b left' held held' account status h = told (plan_to layer) bound b left' held held' account status h
-left_by None bound b None held held' account status h = absurd h.1
-left_by None bound b (Some c) held held' account status h = (h.0, ap (λ v. Some v) h.1, h.2)
+left_by : (asked : Option Request) (bound : ℕ) (b : List ℕ) (left' held held' : Option (List ℕ)) (account : Account) (status : Status) → Ran asked bound (Some b) left' held held' account status → LeavesBy asked bound b left' held held' status
+left_by (Some asked) bound b left' held held' account status (inl h) = inl (h.0, kept_left b left' h.1, h.2)
+left_by (Some asked) bound b left' held held' account status (inr h) = inr (h.0, told (plan_to asked.to) bound b left' held held' account status h.1)
+left_by None bound b left' held held' account status h = (h.0, kept_left b left' h.1, h.2)
 
 -- the answer is that of the run, or the report's
 pub answer_of : (report report' : Option (List ℕ)) (status answer : Status) (account : Account) → Reports report report' status account answer → (answer ≡ status) ⊎ IsNoReport answer
@@ -167,10 +173,10 @@ answer_of report report' status (Outside unit why) account h = inl h.0
 answer_of report report' status TooMuch account h = inl h.0
 answer_of report report' status (BadTable at) account h = inl h.0
 
-pub is_told : (layer : Option Layer) (bound : ℕ) (left left' held held' report report' : Option (List ℕ)) (answer : Status) → RunAnswers layer bound left left' held held' report report' answer → IsTold layer bound left left' held held' answer
-is_told layer bound None left' held held' report report' answer h = tt
-is_told layer bound (Some b) left' held held' report report' answer h =
-    (h.0, left_by layer bound b left' held held' h.1 h.0 h.2, answer_of report report' h.0 answer h.1 h.3)
+pub is_told : (asked : Option Request) (bound : ℕ) (left left' held held' report report' : Option (List ℕ)) (answer : Status) → RunAnswers asked bound left left' held held' report report' answer → IsTold asked bound left left' held held' answer
+is_told asked bound None left' held held' report report' answer h = tt
+is_told asked bound (Some b) left' held held' report report' answer h =
+    (h.0, left_by asked bound b left' held held' h.1 h.0 h.2, answer_of report report' h.0 answer h.1 h.3)
 
 -- ## Exactly when
 
@@ -191,7 +197,7 @@ answer_at (OutsideAt unit why) = Outside unit why
 answer_at NoMemory = Memory
 
 -- the status of a run is the one that is due, or a fault
-pub due-run : (layer : Layer) (bound : ℕ) (b : List ℕ) (left' held held' : Option (List ℕ)) (status due : Status) → Leaves (plan_to layer) bound b left' held held' status → IsDue (Some layer) bound b due → (status ≡ due) ⊎ IsFault status
+pub due-run : (layer : Layer) (bound : ℕ) (b : List ℕ) (left' held held' : Option (List ℕ)) (status due : Status) → Leaves (plan_to layer) bound b left' held held' status → IsDueTo layer bound b due → (status ≡ due) ⊎ IsFault status
 due-run layer bound b left' held held' ReadFault due h d = inr (inr (inl refl))
 due-run layer bound b left' held held' WriteFault due h d = inr (inr (inr (inl refl)))
 due-run layer bound b left' held held' Memory due h d = inr (inl refl)
@@ -225,8 +231,15 @@ due-run layer bound b left' held held' status Memory h d = absurd d
 due-run layer bound b left' held held' status ReportFault h d = absurd d
 due-run layer bound b left' held held' status (BadTable at) h d = absurd d
 
-due-by : (layer : Option Layer) (bound : ℕ) (b : List ℕ) (left' held held' : Option (List ℕ)) (status due : Status) → LeavesBy layer bound b left' held held' status → IsDue layer bound b due → (status ≡ due) ⊎ IsFault status
-due-by (Some layer) bound b left' held held' status due h d = due-run layer bound b left' held held' status due h d
+-- a text fails at one place
+pub bad-once : (text : List ℕ) (first second : Status) → IsBadTable text first → IsBadTable text second → first ≡ second
+bad-once text first second x y = x.2 ∙ ap (λ at. BadTable at) (fails-once text x.0 y.0 x.1 y.1) ∙ sym y.2
+
+due-by : (asked : Option Request) (bound : ℕ) (b : List ℕ) (left' held held' : Option (List ℕ)) (status due : Status) → LeavesBy asked bound b left' held held' status → IsDue asked bound b due → (status ≡ due) ⊎ IsFault status
+due-by (Some asked) bound b left' held held' status due (inl h) (inl d) = inl (bad-once asked.table status due h.0 d)
+due-by (Some asked) bound b left' held held' status due (inl h) (inr d) = absurd (table-stands asked.table h.0.0 d.0 h.0.1)
+due-by (Some asked) bound b left' held held' status due (inr h) (inl d) = absurd (table-stands asked.table d.0 h.0 d.1)
+due-by (Some asked) bound b left' held held' status due (inr h) (inr d) = due-run asked.to bound b left' held held' status due h.1 d.1
 due-by None bound b left' held held' status due h d = inl (h.0 ∙ sym d)
 
 due-answer : (status due answer : Status) → (answer ≡ status) ⊎ IsNoReport answer → (status ≡ due) ⊎ IsFault status → (answer ≡ due) ⊎ IsFault answer
@@ -234,9 +247,9 @@ due-answer status due answer (inr e) k = inr (no-report-is-fault answer e)
 due-answer status due answer (inl e) (inl f) = inl (e ∙ f)
 due-answer status due answer (inl e) (inr f) = let P : Status → Type 0 = IsFault in inr (subst P (sym e) f)
 
-pub is_exact : (layer : Option Layer) (bound : ℕ) (left left' held held' : Option (List ℕ)) (answer : Status) → IsTold layer bound left left' held held' answer → IsExact layer bound left answer
-is_exact layer bound None left' held held' answer h = tt
-is_exact layer bound (Some b) left' held held' answer h = λ due d. due-answer h.0 due answer h.2 (due-by layer bound b left' held held' h.0 due h.1 d)
+pub is_exact : (asked : Option Request) (bound : ℕ) (left left' held held' : Option (List ℕ)) (answer : Status) → IsTold asked bound left left' held held' answer → IsExact asked bound left answer
+is_exact asked bound None left' held held' answer h = tt
+is_exact asked bound (Some b) left' held held' answer h = λ due d. due-answer h.0 due answer h.2 (due-by asked bound b left' held held' h.0 due h.1 d)
 
 -- ## Output follows its input
 
@@ -262,9 +275,19 @@ early_part o bound b left' held held' h taken rest e f items verdict j =
           (ap (λ v. v ++ h.more) done ∙ append_assoc (output o (seen (take n taken)).units items) grows.0 h.more) h.appended,
     )
 
-pub is_prompt : (layer : Option Layer) (bound : ℕ) (left left' held held' report report' : Option (List ℕ)) (answer : Status) → RunAnswers layer bound left left' held held' report report' answer → IsPrompt layer left left' held held'
-is_prompt (Some layer) bound (Some b) left' held held' report report' answer h =
-    early_part (plan_to layer) bound b left' held held' (partly (plan_to layer) bound (Some b) left' held held' h.1 h.0 h.2)
-is_prompt (Some layer) bound None left' held held' report report' answer h = tt
+-- of a source that wasn't read all that is due was written
+unread_part : (o : Plan) (bound : ℕ) (b : List ℕ) (left' held held' : Option (List ℕ)) (account : Account) → Keeps (Some b) left' → Keeps held held' → IsPromptFor o b left' held held'
+unread_part o bound b left' held held' account h k =
+    let P : Option (List ℕ) → Type 0 = λ l. RunEnds o bound (Some b) l held held' account Memory in
+    let none : RunEnds o bound (Some b) (Some b) held held' account Memory = ends-kept o bound (Some b) (Some b) held held held' account Memory (none_begun o bound (Some b) held account) k in
+    early_part o bound b left' held held' (subst P (sym (kept_left b left' h)) none)
+
+pub is_prompt : (asked : Option Request) (bound : ℕ) (left left' held held' report report' : Option (List ℕ)) (answer : Status) → RunAnswers asked bound left left' held held' report report' answer → IsPrompt asked left left' held held'
+is_prompt (Some asked) bound (Some b) left' held held' report report' answer h = by h.2
+  where
+    by : Ran (Some asked) bound (Some b) left' held held' h.1 h.0 → IsPromptFor (plan_to asked.to) b left' held held'
+    by (inl unread) = unread_part (plan_to asked.to) bound b left' held held' h.1 unread.1 unread.2
+    by (inr ran) = early_part (plan_to asked.to) bound b left' held held' (partly (plan_to asked.to) bound (Some b) left' held held' h.1 h.0 ran.1)
+is_prompt (Some asked) bound None left' held held' report report' answer h = tt
 is_prompt None bound (Some b) left' held held' report report' answer h = tt
 is_prompt None bound None left' held held' report report' answer h = tt

@@ -7,21 +7,22 @@ use Rattle.slice_rewrite.specs.View.{Reads, CanBeWritten, SaysTheSame}
 use Rattle.recode_run.specs.declared.status.Status.{Status}
 use Rattle.recode_run.specs.declared.status.Status.TheVariants.{Ok as Done}
 use Rattle.recode_run.specs.Run.{IsFault}
+use Rattle.recode_run.specs.Words.{Request, IsTable}
 
 -- the stream is in scope: it has no more bytes than may be read, and they are read as some items; and no stop stands: each
 -- slice can be written
 abbrev pub IsInScope : Layer → ℕ → List ℕ → Type 0
 IsInScope to bound b = (length b ≤ bound) × ((items : List Item) × Reads to b items × CanBeWritten to items)
 
--- The answer is Ok exactly when the stream is in scope and no stop stands, want of memory and faults of the ends aside. Then
--- it was read to its end, and the bytes written have a reading, with every slice in the wanted layer, and say the same as
--- those read.
-pub record IsRecoded (to : Layer) (bound : ℕ) (b : List ℕ) (left' held held' : Option (List ℕ)) (answer : Status) : Type 0 where
-  pub ok : answer ≡ Done → (left' ≡ Some []) × (length b ≤ bound)
-      × ((items : List Item) × (bytes : List ℕ) × Reads to b items × CanBeWritten to items × Appends held held' bytes × SaysTheSame to items bytes)
-  pub in_scope : IsInScope to bound b → (answer ≡ Done) ⊎ IsFault answer
+-- The answer is Ok exactly when the text is a table's, the stream is in scope and no stop stands, want of memory and faults
+-- of the ends aside. Then the stream was read to its end, and the bytes written have a reading, with every slice in the
+-- wanted layer, and say the same as those read.
+pub record IsRecoded (asked : Request) (bound : ℕ) (b : List ℕ) (left' held held' : Option (List ℕ)) (answer : Status) : Type 0 where
+  pub ok : answer ≡ Done → IsTable asked.table × (left' ≡ Some []) × (length b ≤ bound)
+      × ((items : List Item) × (bytes : List ℕ) × Reads asked.to b items × CanBeWritten asked.to items × Appends held held' bytes × SaysTheSame asked.to items bytes)
+  pub in_scope : IsTable asked.table → IsInScope asked.to bound b → (answer ≡ Done) ⊎ IsFault answer
 
 -- the same of any words, where the source tells its bytes
-abbrev pub IsHeadline : Option Layer → ℕ → Option (List ℕ) → Option (List ℕ) → Option (List ℕ) → Option (List ℕ) → Status → Type 0
-IsHeadline (Some to) bound (Some b) left' held held' answer = IsRecoded to bound b left' held held' answer
+abbrev pub IsHeadline : Option Request → ℕ → Option (List ℕ) → Option (List ℕ) → Option (List ℕ) → Option (List ℕ) → Status → Type 0
+IsHeadline (Some asked) bound (Some b) left' held held' answer = IsRecoded asked bound b left' held held' answer
 IsHeadline _ _ _ _ _ _ _ = Unit {0}

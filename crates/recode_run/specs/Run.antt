@@ -2,19 +2,21 @@
 use Rattle.std.specs.Prelude.{◌≡◌, ◌⊎◌, ℕ, ◌+◌, ◌-◌, ◌<◌, ◌≤◌, nat_le, if◌then◌else◌, List, [], ◌++◌, length, map, take, Option, Some, None}
 use Rattle.std.specs.Io.KnownBytes.{Appends, Consumes, Keeps, IsAtEnd}
 use Rattle.h264_types.specs.declared.layer.Layer.{Layer}
+use Rattle.init_table.specs.TableText.{FailsAt}
 use Rattle.h264_types.specs.declared.fault.Stopped.{Stopped}
 use Rattle.h264_types.specs.declared.fault.Stopped.TheVariants.{Stop as StopAt, Outside as OutsideAt}
 use Rattle.h264_types.specs.Units.{Seen, seen, seen_whole}
 use Rattle.slice_rewrite.specs.declared.plan.Plan.{Plan}
 use Rattle.recode_run.specs.declared.account.Account.{Account}
 use Rattle.recode_run.specs.declared.status.Status.{Status}
-use Rattle.recode_run.specs.declared.status.Status.TheVariants.{Ok as Done, BadWords, ReadFault, WriteFault, Stop, Outside, TooMuch, Memory, ReportFault}
+use Rattle.recode_run.specs.declared.status.Status.TheVariants.{Ok as Done, BadWords, ReadFault, WriteFault, Stop, Outside, TooMuch, Memory, ReportFault, BadTable}
 use Rattle.slice_rewrite.specs.Items.{Item}
 use Rattle.slice_rewrite.specs.Verdict.{Judges, Recodes}
 use Rattle.stream_recoder.specs.Written.{all_written}
 use Rattle.slice_rewrite.specs.Written.{output}
 use Rattle.recode_run.specs.Account.{account_of}
 use Rattle.recode_run.specs.Report.{Reports}
+use Rattle.recode_run.specs.Words.{Request, IsTable}
 
 -- what recoding to this layer is to do
 abbrev pub plan_to : Layer → Plan
@@ -84,9 +86,16 @@ RunEnds o bound left left' held held' account WriteFault = IsPartlyWritten o bou
 RunEnds o bound left left' held held' account Memory = IsPartlyWritten o bound left left' held held'
 RunEnds o bound left left' held held' account _ = ⊥
 
--- How a run ended before its report: with words that ask for no layer it reads and writes nothing.
-abbrev pub Ran : Option Layer → ℕ → Option (List ℕ) → Option (List ℕ) → Option (List ℕ) → Option (List ℕ) → Account → Status → Type 0
-Ran (Some layer) bound left left' held held' account status = RunEnds (plan_to layer) bound left left' held held' account status
+-- the text is no table's, and the answer says where it fails
+abbrev pub IsBadTable : List ℕ → Status → Type 0
+IsBadTable text status = (at : ℕ) × FailsAt text at × (status ≡ BadTable at)
+
+-- How a run ended before its report: with words that ask for nothing, or a text that is no table's, it reads and writes
+-- nothing.
+abbrev pub Ran : Option Request → ℕ → Option (List ℕ) → Option (List ℕ) → Option (List ℕ) → Option (List ℕ) → Account → Status → Type 0
+Ran (Some asked) bound left left' held held' account status =
+    (IsBadTable asked.table status × Keeps left left' × Keeps held held')
+    ⊎ (IsTable asked.table × RunEnds (plan_to asked.to) bound left left' held held' account status)
 Ran None bound left left' held held' account status = (status ≡ BadWords) × Keeps left left' × Keeps held held'
 
 -- the answer replaces what ended the run, since the report failed or there was no memory for it
@@ -94,9 +103,9 @@ abbrev pub IsNoReport : Status → Type 0
 IsNoReport answer = (answer ≡ ReportFault) ⊎ (answer ≡ Memory)
 
 -- How a run ended, with its report.
-abbrev pub RunAnswers : Option Layer → ℕ → Option (List ℕ) → Option (List ℕ) → Option (List ℕ) → Option (List ℕ) → Option (List ℕ) → Option (List ℕ) → Status → Type 0
-RunAnswers layer bound left left' held held' report report' answer =
-    (status : Status) × (account : Account) × Ran layer bound left left' held held' account status × Reports report report' status account answer
+abbrev pub RunAnswers : Option Request → ℕ → Option (List ℕ) → Option (List ℕ) → Option (List ℕ) → Option (List ℕ) → Option (List ℕ) → Option (List ℕ) → Status → Type 0
+RunAnswers asked bound left left' held held' report report' answer =
+    (status : Status) × (account : Account) × Ran asked bound left left' held held' account status × Reports report report' status account answer
 
 -- ## By the bytes that the source has
 
@@ -128,35 +137,41 @@ Leaves o bound b left' held held' Memory = (more : List ℕ) × Appends held hel
 Leaves o bound b left' held held' _ = ⊥
 
 -- the same of any words
-abbrev pub LeavesBy : Option Layer → ℕ → List ℕ → Option (List ℕ) → Option (List ℕ) → Option (List ℕ) → Status → Type 0
-LeavesBy (Some layer) bound b left' held held' status = Leaves (plan_to layer) bound b left' held held' status
+abbrev pub LeavesBy : Option Request → ℕ → List ℕ → Option (List ℕ) → Option (List ℕ) → Option (List ℕ) → Status → Type 0
+LeavesBy (Some asked) bound b left' held held' status =
+    (IsBadTable asked.table status × (left' ≡ Some b) × Keeps held held')
+    ⊎ (IsTable asked.table × Leaves (plan_to asked.to) bound b left' held held' status)
 LeavesBy None bound b left' held held' status = (status ≡ BadWords) × (left' ≡ Some b) × Keeps held held'
 
 -- What is left where the source tells its bytes: an answer that replaces another leaves what that one leaves.
-abbrev pub IsTold : Option Layer → ℕ → Option (List ℕ) → Option (List ℕ) → Option (List ℕ) → Option (List ℕ) → Status → Type 0
-IsTold layer bound None left' held held' answer = Unit {0}
-IsTold layer bound (Some b) left' held held' answer =
-    (status : Status) × LeavesBy layer bound b left' held held' status × ((answer ≡ status) ⊎ IsNoReport answer)
+abbrev pub IsTold : Option Request → ℕ → Option (List ℕ) → Option (List ℕ) → Option (List ℕ) → Option (List ℕ) → Status → Type 0
+IsTold asked bound None left' held held' answer = Unit {0}
+IsTold asked bound (Some b) left' held held' answer =
+    (status : Status) × LeavesBy asked bound b left' held held' status × ((answer ≡ status) ⊎ IsNoReport answer)
 
 -- ## Exactly when
 
--- the answer that is due for a source of the bytes b
-abbrev pub IsDue : Option Layer → ℕ → List ℕ → Status → Type 0
+-- the answer that is due for a source of the bytes b, which is to be recoded to this layer
+abbrev pub IsDueTo : Layer → ℕ → List ℕ → Status → Type 0
+IsDueTo layer bound b Done = (length b ≤ bound) × ((items : List Item) × Recodes (plan_to layer) (judged bound b) items None)
+IsDueTo layer bound b (Outside unit why) = (items : List Item) × Recodes (plan_to layer) (judged bound b) items (Some (OutsideAt unit why))
+IsDueTo layer bound b (Stop case place) = (items : List Item) × Recodes (plan_to layer) (judged bound b) items (Some (StopAt case place))
+IsDueTo layer bound b TooMuch = (bound < length b) × ((items : List Item) × Recodes (plan_to layer) (judged bound b) items None)
+IsDueTo layer bound b _ = ⊥
+
+-- the same of any words
+abbrev pub IsDue : Option Request → ℕ → List ℕ → Status → Type 0
+IsDue (Some asked) bound b status = IsBadTable asked.table status ⊎ (IsTable asked.table × IsDueTo asked.to bound b status)
 IsDue None bound b status = status ≡ BadWords
-IsDue (Some layer) bound b Done = (length b ≤ bound) × ((items : List Item) × Recodes (plan_to layer) (judged bound b) items None)
-IsDue (Some layer) bound b (Outside unit why) = (items : List Item) × Recodes (plan_to layer) (judged bound b) items (Some (OutsideAt unit why))
-IsDue (Some layer) bound b (Stop case place) = (items : List Item) × Recodes (plan_to layer) (judged bound b) items (Some (StopAt case place))
-IsDue (Some layer) bound b TooMuch = (bound < length b) × ((items : List Item) × Recodes (plan_to layer) (judged bound b) items None)
-IsDue (Some layer) bound b _ = ⊥
 
 -- want of memory, or a fault of an end
 abbrev pub IsFault : Status → Type 0
 IsFault answer = (answer ≡ Memory) ⊎ ((answer ≡ ReadFault) ⊎ ((answer ≡ WriteFault) ⊎ (answer ≡ ReportFault)))
 
 -- the answer that is due comes, but for want of memory and faults
-abbrev pub IsExact : Option Layer → ℕ → Option (List ℕ) → Status → Type 0
-IsExact layer bound None answer = Unit {0}
-IsExact layer bound (Some b) answer = (due : Status) → IsDue layer bound b due → (answer ≡ due) ⊎ IsFault answer
+abbrev pub IsExact : Option Request → ℕ → Option (List ℕ) → Status → Type 0
+IsExact asked bound None answer = Unit {0}
+IsExact asked bound (Some b) answer = (due : Status) → IsDue asked bound b due → (answer ≡ due) ⊎ IsFault answer
 
 -- ## Output follows its input
 
@@ -167,6 +182,6 @@ IsPromptFor o b left' held held' = (taken : List ℕ) (rest : List ℕ) → b �
     let early = seen (take (length taken - 65536) taken) in
     (items : List Item) (verdict : Option Stopped) → Recodes o early items verdict → (more : List ℕ) × Appends held held' (output o early.units items ++ more)
 
-abbrev pub IsPrompt : Option Layer → Option (List ℕ) → Option (List ℕ) → Option (List ℕ) → Option (List ℕ) → Type 0
-IsPrompt (Some layer) (Some b) left' held held' = IsPromptFor (plan_to layer) b left' held held'
+abbrev pub IsPrompt : Option Request → Option (List ℕ) → Option (List ℕ) → Option (List ℕ) → Option (List ℕ) → Type 0
+IsPrompt (Some asked) (Some b) left' held held' = IsPromptFor (plan_to asked.to) b left' held held'
 IsPrompt _ _ left' held held' = Unit {0}

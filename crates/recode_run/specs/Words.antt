@@ -1,8 +1,19 @@
 -- The words that the program is called with.
-use Rattle.std.specs.Prelude.{ℕ, Bool, ◌&&◌, if◌then◌else◌, List, [], ◌∷◌, Option, Some, None, codes}
+use Rattle.std.specs.Prelude.{ℕ, ℤ, Bool, ◌&&◌, if◌then◌else◌, List, [], ◌∷◌, Option, Some, None, codes}
 use Rattle.std.specs.Str.{bytes_eq}
+use Rattle.std.specs.Option.{option_map}
 use Rattle.h264_types.specs.declared.layer.Layer.{Layer}
 use Rattle.h264_types.specs.declared.layer.Layer.TheVariants.{Cavlc, Cabac}
+use Rattle.init_table.specs.TableText.{IsTableText}
+use Rattle.recode_run.specs.declared.words.Asked.{Asked}
+
+-- a wanted layer, and the text that is to be a table
+pub record Request : Type 0 where
+  pub to : Layer
+  pub table : List ℕ
+
+abbrev pub request_of : Asked → Request
+request_of asked = record { to = asked.to; table = asked.table.now }
 
 -- the layer of this name
 abbrev pub layer_of : List ℕ → Option Layer
@@ -15,7 +26,12 @@ abbrev pub are_names : List ℕ → List ℕ → List ℕ → Bool
 are_names command to table =
     bytes_eq command (codes "recode") && (bytes_eq to (codes "--to") && bytes_eq table (codes "--table"))
 
--- the layer that the words ask for: they are recode, --to, a layer, --table and any text, and others ask for none
-abbrev pub words_of : List (List ℕ) → Option Layer
-words_of (command ∷ to ∷ layer ∷ table ∷ text ∷ []) = if are_names command to table then layer_of layer else None
+-- what the words ask for: they are recode, --to, a layer, --table and any text, and others ask for nothing
+abbrev pub words_of : List (List ℕ) → Option Request
+words_of (command ∷ to ∷ layer ∷ table ∷ text ∷ []) =
+    if are_names command to table then option_map (λ to. record { to = to; table = text }) (layer_of layer) else None
 words_of _ = None
+
+-- the text is a table's
+abbrev pub IsTable : List ℕ → Type 0
+IsTable text = (pairs : ℕ → ℕ → ℤ × ℤ) × IsTableText text pairs

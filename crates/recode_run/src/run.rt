@@ -5,7 +5,8 @@ ghost use Rattle.unit_io.specs.Faults.{Rose, HasCause, HasSinkCause};
 ghost use Rattle.h264_types.specs.Units.{seen};
 ghost use Rattle.recode_run.specs.declared.account.Account.{Account};
 ghost use Rattle.recode_run.specs.Account.{account_of};
-ghost use Rattle.recode_run.specs.Words.{words_of};
+ghost use Rattle.std.specs.Option.{option_map};
+ghost use Rattle.recode_run.specs.Words.{request_of, words_of};
 ghost use Rattle.stream_recoder.specs.Written.{Written, forms};
 ghost use Rattle.stream_recoder.specs.Recoder.{waiting, HasRecoded};
 ghost use Rattle.recode_run.specs.Pieces.{IsReady, PieceDone, PieceEnds, Notes, ReadsSome, status_of_fault, status_of_stop};
@@ -16,8 +17,9 @@ ghost use Rattle.recode_run.specs.Report.{TakesPart};
 use crate::account::Account;
 use crate::report::write_report;
 use crate::status::Status;
-use crate::words::read_words;
-use h264_types::{Layer, Stopped};
+use crate::words::{Asked, read_words};
+use h264_types::Stopped;
+use init_table::{BadTable, InitTable};
 use slice_rewrite::Plan;
 use std::alloc::Global;
 use stream_recoder::Recoder;
@@ -33,6 +35,7 @@ const PIECE: usize = 65_536;
 /// Runs the program with these words, without the name of the program: reads the source to its end, and writes the
 /// stream in the wanted form to `out` and a line on how the run ended to `report`.
 ///
+/// With other words, or a text that is no table's, nothing is read, and `out` is left alone.
 /// Each unit is written as soon as its end was read. A source of more than 2^40 bytes is too much.
 pub fn run<S: Source, K: Sink, E: Sink>(
     alloc: Global,
@@ -83,10 +86,11 @@ pub fn run_within<S: Source, K: Sink, E: Sink>(
     write_report(alloc, status, &account, report)
 }
 
-// Recodes a source to a layer, if the words ask for one.
+// Recodes a source to a layer, if the words ask for one and their text is a table's. It has to be one in every run, for a
+// stream without a slice in CABAC too: whether a call is right doesn't rest on its input.
 fn recode_to<S: Source, K: Sink>(
     alloc: Global,
-    layer: Option<Layer>,
+    asked: Option<Asked<'_>>,
     src: &mut S,
     out: &mut K,
     bound: u64,
@@ -94,13 +98,16 @@ fn recode_to<S: Source, K: Sink>(
 ) -> Status
     requires bounded { bound ≤ 2 ^ 40 }
     requires none { account.old ≡ account_of 0 [] }
-    ensures ran { Ran layer bound (S.left src.old) (S.left src.new) (K.held out.old) (K.held out.new) account.new result }
+    ensures ran { Ran (option_map request_of asked.entry) bound (S.left src.old) (S.left src.new) (K.held out.old) (K.held out.new) account.new result }
     ensures read { result ≡ Status.ReadFault → Rose (S.faults src.old) (S.faults src.new) }
     ensures write { result ≡ Status.WriteFault → Rose (K.faults out.old) (K.faults out.new) }
 {
-    match layer {
-        Some(to) => recode(alloc, Plan { to, range: None }, src, out, bound, account),
-        None => Status::BadWords,
+    let Some(Asked { to, table }) = asked else {
+        return Status::BadWords;
+    };
+    match InitTable::of(table) {
+        Ok(_) => recode(alloc, Plan { to, range: None }, src, out, bound, account),
+        Err(BadTable { at }) => Status::BadTable { at },
     }
 }
 

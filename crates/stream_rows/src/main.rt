@@ -4,8 +4,8 @@
 //!
 //! A line is `name | words | input | pieces | status | report | output`. The input comes in pieces of so many bytes, once
 //! for each number. Bytes are hexadecimal, `80*384` stands for 384 bytes 80, and `-` for none. A line `name = bytes` gives
-//! bytes a name, to be used in later lines; a name that is given again goes on. Blank lines and those that begin with `#`
-//! say nothing.
+//! bytes a name, to be used in later lines; a name that is given again goes on. A word `$name` is the text of these bytes.
+//! Blank lines and those that begin with `#` say nothing.
 #![tactic(auto)]
 
 mod answer;

@@ -17,10 +17,17 @@ pub struct Row {
     pub due: Answer,
 }
 
-fn words_of(alloc: Global, text: &str) -> Result<Vec<String>> {
+fn word_of(alloc: Global, named: &Named, word: &str) -> Result<String> {
+    match word.strip_prefix('$') {
+        Some(bytes) => Ok(String::from_utf8_lossy(alloc, named.bytes(alloc, bytes)?.as_slice())?),
+        None => Ok(word.to_string(alloc)?),
+    }
+}
+
+fn words_of(alloc: Global, named: &Named, text: &str) -> Result<Vec<String>> {
     let mut words = Vec::new(alloc);
     for word in text.split_whitespace() {
-        words.push(word.to_string(alloc)?)?;
+        words.push(word_of(alloc, named, word)?)?;
     }
     Ok(words)
 }
@@ -47,7 +54,7 @@ pub fn read_row(alloc: Global, named: &Named, line: &str) -> Result<Row> {
     line.push(b'\n')?;
     Ok(Row {
         name: name.to_string(alloc)?,
-        words: words_of(alloc, words)?,
+        words: words_of(alloc, named, words)?,
         input: named.bytes(alloc, input)?,
         pieces: sizes_of(alloc, pieces)?,
         due: Answer {

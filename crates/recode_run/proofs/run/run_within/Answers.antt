@@ -1,7 +1,6 @@
 use Rattle.std.proofs.Common.{map, subst}
 use Rattle.std.specs.Prelude.{Option, string_bytes}
-use Rattle.h264_types.specs.declared.layer.Layer.{Layer}
-use Rattle.recode_run.specs.Words.{words_of}
+use Rattle.recode_run.specs.Words.{Request, words_of}
 use Rattle.recode_run.specs.Run.{Ran}
 use Rattle.recode_run.proofs.Headline.{is_headline}
 use Rattle.recode_run.proofs.Told.{is_told, is_exact, is_prompt}
@@ -12,7 +11,7 @@ returns-clause-ends g c =
     let left = g.S.Source.left in
     let held = g.K.Sink.held in
     let k = c.recode_to-status in
-    let P : Option Layer → Type 0 = λ layer. Ran layer c.args.bound (left c.args.src.now) (left k.new.src) (held c.args.out.now) (held k.new.out) k.new.account k.result in
+    let P : Option Request → Type 0 = λ asked. Ran asked c.args.bound (left c.args.src.now) (left k.new.src) (held c.args.out.now) (held k.new.out) k.new.account k.result in
     (k.result, k.new.account, subst P c.read_words.ensures k.ensures.ran, c.write_report.ensures.line)
 
 pub returns-clause-told : goal.returns-clause-told
@@ -20,29 +19,29 @@ returns-clause-told g c =
     let left = g.S.Source.left in
     let held = g.K.Sink.held in
     let k = c.recode_to-status in
-    let layer = words_of (map (λ word. string_bytes word) c.args.words.now) in
-    is_told layer c.args.bound (left c.args.src.now) (left k.new.src) (held c.args.out.now) (held k.new.out) (g.E.Sink.held c.args.report.now) (g.E.Sink.held c.write_report.new.report) c.write_report.result (returns-clause-ends g c)
+    let asked = words_of (map (λ word. string_bytes word) c.args.words.now) in
+    is_told asked c.args.bound (left c.args.src.now) (left k.new.src) (held c.args.out.now) (held k.new.out) (g.E.Sink.held c.args.report.now) (g.E.Sink.held c.write_report.new.report) c.write_report.result (returns-clause-ends g c)
 
 pub returns-clause-exact : goal.returns-clause-exact
 returns-clause-exact g c =
     let left = g.S.Source.left in
     let held = g.K.Sink.held in
     let k = c.recode_to-status in
-    let layer = words_of (map (λ word. string_bytes word) c.args.words.now) in
-    is_exact layer c.args.bound (left c.args.src.now) (left k.new.src) (held c.args.out.now) (held k.new.out) c.write_report.result (returns-clause-told g c)
+    let asked = words_of (map (λ word. string_bytes word) c.args.words.now) in
+    is_exact asked c.args.bound (left c.args.src.now) (left k.new.src) (held c.args.out.now) (held k.new.out) c.write_report.result (returns-clause-told g c)
 
 pub returns-clause-prompt : goal.returns-clause-prompt
 returns-clause-prompt g c =
     let left = g.S.Source.left in
     let held = g.K.Sink.held in
     let k = c.recode_to-status in
-    let layer = words_of (map (λ word. string_bytes word) c.args.words.now) in
-    is_prompt layer c.args.bound (left c.args.src.now) (left k.new.src) (held c.args.out.now) (held k.new.out) (g.E.Sink.held c.args.report.now) (g.E.Sink.held c.write_report.new.report) c.write_report.result (returns-clause-ends g c)
+    let asked = words_of (map (λ word. string_bytes word) c.args.words.now) in
+    is_prompt asked c.args.bound (left c.args.src.now) (left k.new.src) (held c.args.out.now) (held k.new.out) (g.E.Sink.held c.args.report.now) (g.E.Sink.held c.write_report.new.report) c.write_report.result (returns-clause-ends g c)
 
 pub returns-clause-headline : goal.returns-clause-headline
 returns-clause-headline g c =
     let left = g.S.Source.left in
     let held = g.K.Sink.held in
     let k = c.recode_to-status in
-    let layer = words_of (map (λ word. string_bytes word) c.args.words.now) in
-    is_headline layer c.args.bound (left c.args.src.now) (left k.new.src) (held c.args.out.now) (held k.new.out) c.write_report.result (returns-clause-told g c) (returns-clause-exact g c)
+    let asked = words_of (map (λ word. string_bytes word) c.args.words.now) in
+    is_headline asked c.args.bound (left c.args.src.now) (left k.new.src) (held c.args.out.now) (held k.new.out) c.write_report.result (returns-clause-told g c) (returns-clause-exact g c)
