@@ -1,8 +1,10 @@
 -- The text of a table of initial pairs.
-use Rattle.std.specs.Prelude.{◌≡◌, ℕ, ◌+◌, ◌-◌, ◌*◌, ◌<◌, ◌==◌, nat_lt, nat_le, ℤ, pos, neg_ℤ, Bool, true, false, ◌&&◌, ◌||◌, List, [], ◌∷◌, length, filter, fold, Option, Some, None, IsSome, slice_get, if◌then◌else◌, ◌⊎◌, codes}
+use Rattle.std.specs.Prelude.{◌≡◌, ℕ, ◌+◌, ◌-◌, ◌*◌, ◌<◌, ◌==◌, nat_lt, nat_le, ℤ, pos, neg_ℤ, Bool, true, false, ◌&&◌, ◌||◌, List, [], ◌∷◌, length, filter, fold, Option, Some, None, IsSome, All, slice_get, if◌then◌else◌, ◌⊎◌, codes}
 use Rattle.std.specs.Char.{is_ascii_digit}
 use Rattle.std.specs.List.{list_all}
 use Rattle.std.specs.Option.{option_and_then}
+use Rattle.init_table.specs.InitTable.{pair_of}
+use Rattle.init_table.specs.declared.table.InitTable.{InitTable}
 
 -- space, tab, line feed, carriage return
 abbrev pub is_blank : ℕ → Bool
@@ -63,10 +65,16 @@ pub record Writes (text : List ℕ) (pairs : ℕ → ℕ → ℤ × ℤ) : Type 
   pub n_is : (ctx column : ℕ) → ctx < 460 → column < 4 → number_at text (8 * ctx + 2 * column + 1) ≡ Some (pairs ctx column).1
   pub no_more : length (words text) ≡ 3680
 
--- the text is that of the table with these pairs
+-- the text is that of a table with these pairs
 abbrev pub IsTableText : List ℕ → (ℕ → ℕ → ℤ × ℤ) → Type 0
 IsTableText text pairs =
     (IsFlat text × ((ctx column : ℕ) → ctx < 460 → column < 4 → pairs ctx column ≡ (pos 0, pos 64))) ⊎ Writes text pairs
+
+-- the table of a text: the pairs of 460 contexts in four columns each
+pub record IsTableOf (text : List ℕ) (table : InitTable) : Type 0 where
+  pub pairs : IsTableText text (pair_of table)
+  pub contexts : length table.pairs ≡ 460
+  pub columns : All (λ row. length row ≡ 4) table.pairs
 
 -- A text that isn't `flat` fails at the first of its places 0 to 3,679 whose word is missing or no number, and where there is
 -- none, at 3,680 if more words follow.

@@ -5,6 +5,7 @@
 
 mod numbers;
 mod table;
+mod text;
 mod words;
 
 pub use table::{BadTable, InitTable};
