@@ -10,3 +10,4 @@ pub mod WroteLaws
 pub mod PutLaws
 pub mod DataLaws
 pub mod OneList
+pub mod Columns
