@@ -1,4 +1,5 @@
 pub mod Cells
+pub mod Magnitudes
 pub mod Neighbours
 pub mod Segments
 pub mod StartingStates

@@ -4,7 +4,7 @@
 -- An element that a macroblock doesn't send is 0 in it (h264_types, IsMacroblock): a skipped macroblock and I_PCM have no
 -- mb_qp_delta, and one without transform_size_8x8_flag has none set. So the definitions of these two ask for the value alone
 -- where the standard also asks whether it was sent.
-use Rattle.std.specs.Prelude.{◌≡◌, ℕ, ◌+◌, ◌-◌, ◌*◌, ◌<◌, ◌==◌, Bool, false, not, if◌then◌else◌, pos, List, slice_get}
+use Rattle.std.specs.Prelude.{◌≡◌, ℕ, ◌+◌, ◌-◌, ◌*◌, ◌<◌, ◌==◌, nat_lt, Bool, false, not, if◌then◌else◌, pos, List, slice_get}
 use Rattle.std.specs.Int.{from_bool}
 use Rattle.std.specs.Option.{option_map_or}
 use Rattle.std.specs.Ordering.{int_eq}
@@ -14,8 +14,8 @@ use Rattle.h264_types.specs.declared.slice_shape.SliceShape.{SliceShape}
 use Rattle.mb_neighbours.specs.declared.place.At.{At}
 use Rattle.mb_neighbours.specs.declared.place.At.TheVariants.{Whole, Luma4, Luma8, Chroma4}
 use Rattle.cabac_contexts.specs.declared.term.Term.{Term}
-use Rattle.cabac_contexts.specs.declared.term.Term.TheVariants.{OtherType, ChromaMode, Transform8, NoLuma, Chroma, ChromaAc, LumaDcFlag, LumaFlag, ChromaDcFlag, ChromaAcFlag}
-use Rattle.cabac_contexts.specs.Terms.{flag_a, flag_b}
+use Rattle.cabac_contexts.specs.declared.term.Term.TheVariants.{OtherType, ChromaMode, Transform8, NoLuma, Chroma, ChromaAc, LumaDcFlag, LumaFlag, ChromaDcFlag, ChromaAcFlag, NotSkipped, NotDirect, Reference}
+use Rattle.cabac_contexts.specs.Terms.{flag_a, flag_b, magnitudes}
 
 -- condTermFlagA + condTermFlagB
 abbrev pub sum : Bool → Bool → ℕ
@@ -32,9 +32,29 @@ abbrev pub weighted_of : Bool → Term → SliceShape → List Mb → ℕ → Bo
 weighted_of missing term shape done at field mb place =
     weighted (flag_a missing term shape done at field mb place) (flag_b missing term shape done at field mb place)
 
+-- mb_skip_flag (9.3.3.1.1.1): a neighbour that isn't available counts as skipped, so the top of a pair may be missing where
+-- it is skipped
+abbrev pub skip : SliceShape → List Mb → ℕ → Bool → Mb → ℕ
+skip = sum_of NotSkipped
+
 -- mb_type in I slices, its first bin (9.3.3.1.1.3)
 abbrev pub type_i : SliceShape → List Mb → ℕ → Bool → Mb → ℕ
 type_i = sum_of OtherType
+
+-- mb_type in B slices, its first bin (9.3.3.1.1.3)
+abbrev pub type_b : SliceShape → List Mb → ℕ → Bool → Mb → ℕ
+type_b = sum_of NotDirect
+
+-- ref_idx_l0 or ref_idx_l1 of the partition that begins with this quarter, its first bin (9.3.3.1.1.6)
+abbrev pub ref_idx : SliceShape → List Mb → ℕ → Bool → Mb → ℕ → ℕ → ℕ
+ref_idx shape done at field mb list quarter = weighted_of false (Reference list field) shape done at field mb (Luma8 quarter)
+
+-- a component of mvd_l0 or mvd_l1, x for axis 0 and y for axis 1, of the part that begins with this 4x4 block, its first bin
+-- (9.3.3.1.1.7)
+abbrev pub mvd : SliceShape → List Mb → ℕ → Bool → Mb → ℕ → ℕ → ℕ → ℕ
+mvd shape done at field mb list block axis = by_size (magnitudes shape done at field mb list block axis) where
+  by_size : ℕ → ℕ
+  by_size sum = if nat_lt sum 3 then 0 else if nat_lt 32 sum then 2 else 1
 
 -- intra_chroma_pred_mode, its first bin (9.3.3.1.1.8)
 abbrev pub chroma_mode : SliceShape → List Mb → ℕ → Bool → Mb → ℕ

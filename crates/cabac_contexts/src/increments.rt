@@ -1,13 +1,26 @@
 ghost use Rattle.std.specs.Prelude.{◌≡◌, ◌<◌, ◌≤◌, List};
 ghost use Rattle.h264_types.specs.declared.macroblock.Mb.{Mb};
+ghost use Rattle.h264_types.specs.LastRows.{StandsAt};
 ghost use Rattle.h264_types.specs.Slice.{IsInPicture};
 ghost use Rattle.mb_neighbours.specs.Place.{IsPlace, count_of};
 ghost use Rattle.cabac_contexts.specs.Terms.{HasComponent, IsReadAt, blocks_of};
 ghost use Rattle.cabac_contexts.specs.Increments as inc;
 
+use crate::magnitude::magnitudes;
 use crate::term::{Term, flags};
 use h264_types::{Mb, Rows, SliceShape};
 use mb_neighbours::At;
+
+/// The increment of mb_skip_flag, 0 to 2 (9.3.3.1.1.1), where the arguments are those of [`ctx_inc_type_i`]. Of a pair whose top
+/// is skipped, the top may be missing in `done` at its bottom: it counts as skipped.
+pub fn ctx_inc_skip(shape: &SliceShape, done: &Rows<Mb>, at: u32, field: bool, mb: &Mb) -> u8
+    requires picture { IsInPicture shape.now at }
+    ensures value { (mbs : List Mb) → StandsAt (λ mb. mb) shape.now done.now mbs at → result ≡ inc.skip shape.now mbs at field mb.now }
+    ensures bound { result < 3 }
+{
+    let place = At::Whole;
+    sum(flags(shape, done, at, field, mb, place, Term::NotSkipped, false))
+}
 
 /// The increment of the first bin of mb_type in an I slice, 0 to 2 (9.3.3.1.1.3).
 ///
@@ -21,6 +34,64 @@ pub fn ctx_inc_type_i(shape: &SliceShape, done: &Rows<Mb>, at: u32, field: bool,
 {
     let place = At::Whole;
     sum(flags(shape, done, at, field, mb, place, Term::OtherType, false))
+}
+
+/// The increment of the first bin of mb_type in a B slice, 0 to 2 (9.3.3.1.1.3).
+pub fn ctx_inc_type_b(shape: &SliceShape, done: &Rows<Mb>, at: u32, field: bool, mb: &Mb) -> u8
+    requires picture { IsInPicture shape.now at }
+    ensures value { (mbs : List Mb) → IsReadAt shape.now done.now mbs at → result ≡ inc.type_b shape.now mbs at field mb.now }
+    ensures bound { result < 3 }
+{
+    let place = At::Whole;
+    sum(flags(shape, done, at, field, mb, place, Term::NotDirect, false))
+}
+
+/// The increment of the first bin of ref_idx_l0 or ref_idx_l1, 0 to 3 (9.3.3.1.1.6), for the partition that begins with this
+/// quarter. `mb` has its sub_mb_type, and the indices of the partitions before.
+pub fn ctx_inc_ref(
+    shape: &SliceShape,
+    done: &Rows<Mb>,
+    at: u32,
+    field: bool,
+    mb: &Mb,
+    list: u8,
+    quarter: u8,
+) -> u8
+    requires picture { IsInPicture shape.now at }
+    requires list { list < 2 }
+    requires quarter { quarter < 4 }
+    ensures value { (mbs : List Mb) → IsReadAt shape.now done.now mbs at → result ≡ inc.ref_idx shape.now mbs at field mb.now list quarter }
+    ensures bound { result < 4 }
+{
+    let place = At::Luma8(quarter);
+    let term = Term::Reference(list, field);
+    weighted(flags(shape, done, at, field, mb, place, term, false))
+}
+
+/// The increment of the first bin of a component of mvd_l0 or mvd_l1, 0 to 2 (9.3.3.1.1.7), for the part that begins with
+/// this 4x4 block: x for axis 0, y for axis 1. `mb` has its sub_mb_type, and the vectors of the parts before.
+pub fn ctx_inc_mvd(
+    shape: &SliceShape,
+    done: &Rows<Mb>,
+    at: u32,
+    field: bool,
+    mb: &Mb,
+    list: u8,
+    block: u8,
+    axis: u8,
+) -> u8
+    requires picture { IsInPicture shape.now at }
+    requires list { list < 2 }
+    requires block { block < 16 }
+    requires axis { axis < 2 }
+    ensures value { (mbs : List Mb) → IsReadAt shape.now done.now mbs at → result ≡ inc.mvd shape.now mbs at field mb.now list block axis }
+    ensures bound { result < 3 }
+{
+    match magnitudes(shape, done, at, field, mb, list, block, axis) {
+        0..3 => 0,
+        3..=32 => 1,
+        _ => 2,
+    }
 }
 
 /// The increment of the first bin of intra_chroma_pred_mode, 0 to 2 (9.3.3.1.1.8).

@@ -8,7 +8,7 @@ ghost use Rattle.mb_neighbours.specs.Place.{IsPlace, number_of};
 ghost use Rattle.mb_neighbours.specs.declared.place.At.{At};
 ghost use Rattle.cabac_contexts.specs.declared.term.Term.{Term};
 ghost use Rattle.cabac_contexts.specs.States.{state_of};
-ghost use Rattle.cabac_contexts.specs.Terms.{term_of, flag_a, flag_b};
+ghost use Rattle.cabac_contexts.specs.Terms.{term_of, flag_a, flag_b, magnitude_of, magnitudes};
 ghost use Rattle.cabac_contexts.specs.Coders.{InCoding, OutCoding, SegmentBits, HasGiven, GivesBin, HasTaken, TakesBin};
 
 /// The bins of a run of steps are those that a decoder gave.
@@ -49,7 +49,7 @@ pub fn states_go_on_over_segments()
 {}
 
 /// Of the current macroblock, condTermFlagA and condTermFlagB rest on the blocks before the place alone, and for a whole
-/// macroblock on nothing: they are those of every macroblock whose blocks before it answer alike.
+/// macroblock on nothing: they are those of every macroblock whose blocks before it answer alike. So does absMvdComp.
 pub fn the_blocks_before_are_enough()
     ensures a { (missing : Bool) (term : Term) (shape : SliceShape) (done : List Mb) (at : ℕ) (field : Bool) (mb other : Mb) (place : At) → IsPlace place
         → ((block : ℕ) → block < number_of place → term_of term mb block ≡ term_of term other block)
@@ -57,4 +57,7 @@ pub fn the_blocks_before_are_enough()
     ensures b { (missing : Bool) (term : Term) (shape : SliceShape) (done : List Mb) (at : ℕ) (field : Bool) (mb other : Mb) (place : At) → 0 < shape.width → IsPlace place
         → ((block : ℕ) → block < number_of place → term_of term mb block ≡ term_of term other block)
         → flag_b missing term shape done at field mb place ≡ flag_b missing term shape done at field other place }
+    ensures magnitudes { (shape : SliceShape) (done : List Mb) (at : ℕ) (field : Bool) (mb other : Mb) (list block axis : ℕ) → 0 < shape.width → block < 16
+        → ((n : ℕ) → n < block → magnitude_of list axis field mb n ≡ magnitude_of list axis field other n)
+        → magnitudes shape done at field mb list block axis ≡ magnitudes shape done at field other list block axis }
 {}

@@ -7,13 +7,14 @@ mod contexts;
 mod in_coder;
 mod increments;
 pub mod laws;
+mod magnitude;
 mod out_coder;
 mod term;
 
 pub use contexts::Contexts;
 pub use in_coder::InCoder;
 pub use increments::{
-    ctx_inc_block, ctx_inc_chroma, ctx_inc_chroma_mode, ctx_inc_luma, ctx_inc_qp_delta, ctx_inc_t8,
-    ctx_inc_type_i,
+    ctx_inc_block, ctx_inc_chroma, ctx_inc_chroma_mode, ctx_inc_luma, ctx_inc_mvd,
+    ctx_inc_qp_delta, ctx_inc_ref, ctx_inc_skip, ctx_inc_t8, ctx_inc_type_b, ctx_inc_type_i,
 };
 pub use out_coder::OutCoder;

@@ -1,13 +1,14 @@
 // What neighbouring macroblocks and blocks say of a bin's context (9.3.3.1.1).
-ghost use Rattle.std.specs.Prelude.{◌≡◌, ◌<◌, ◌≤◌, List, IfSome};
-ghost use Rattle.h264_types.specs.LastRows.{AreRows, IsRecent};
+ghost use Rattle.std.specs.Prelude.{◌≡◌, ◌<◌, ◌≤◌, nat_lt, List, IfSome};
+ghost use Rattle.h264_types.specs.LastRows.{AreRows, IsRecent, StandsAt};
 ghost use Rattle.h264_types.specs.declared.macroblock.Mb.{Mb};
 ghost use Rattle.h264_types.specs.declared.slice_shape.SliceShape.{SliceShape};
 ghost use Rattle.h264_types.specs.Slice.{IsInPicture};
+ghost use Rattle.h264_types.specs.Valid.{list_is_used, ref_at};
 ghost use Rattle.mb_neighbours.specs.Place.{IsPlace, count_of};
-ghost use Rattle.cabac_contexts.specs.Terms.{HasComponent, IsReadAt, blocks_of, has_level, has_luma, term_of, flag_at, flag_a, flag_b};
+ghost use Rattle.cabac_contexts.specs.Terms.{HasComponent, blocks_of, has_level, has_luma, term_of, zero_ref, flag_at, flag_a, flag_b};
 
-use h264_types::{Mb, Rows, SliceShape};
+use h264_types::{Mb, MbKind, Rows, SliceShape};
 use mb_neighbours::{At, Spot, above, left};
 
 /// What a neighbouring macroblock or block is asked; its answer is condTermFlagN.
@@ -33,6 +34,13 @@ pub enum Term {
     ChromaDcFlag(u8),
     /// coded_block_flag of a block of AC levels of a chroma component (9.3.3.1.1.9).
     ChromaAcFlag(u8),
+    /// It isn't skipped (9.3.3.1.1.1).
+    NotSkipped,
+    /// It is neither skipped nor B_Direct_16x16 (9.3.3.1.1.3).
+    NotDirect,
+    /// A quarter sends a reference index of a list, 0 or 1, that counts as greater than 0 beside a macroblock whose pair
+    /// flag is this (9.3.3.1.1.6).
+    Reference(u8, bool),
 }
 
 /// condTermFlagA and condTermFlagB of a place of the current macroblock; `missing` is that of a neighbour that isn't
@@ -51,8 +59,8 @@ pub(crate) fn flags(
     requires place { IsPlace place }
     requires blocks { count_of place ≤ blocks_of term }
     requires component { HasComponent term }
-    ensures a { (mbs : List Mb) → IsReadAt shape.now done.now mbs at → result.0 ≡ flag_a missing term shape.now mbs at field mb.now place }
-    ensures b { (mbs : List Mb) → IsReadAt shape.now done.now mbs at → result.1 ≡ flag_b missing term shape.now mbs at field mb.now place }
+    ensures a { (mbs : List Mb) → StandsAt (λ mb. mb) shape.now done.now mbs at → result.0 ≡ flag_a missing term shape.now mbs at field mb.now place }
+    ensures b { (mbs : List Mb) → StandsAt (λ mb. mb) shape.now done.now mbs at → result.1 ≡ flag_b missing term shape.now mbs at field mb.now place }
 {
     let a = left(shape, done, at, field, place);
     let b = above(shape, done, at, field, place);
@@ -108,7 +116,29 @@ fn answer(mb: &Mb, block: u8, term: Term) -> bool
             let blocks = &mb.chroma_ac[usize::from(component)];
             kind.is_i_pcm() || pattern.chroma == 2 && has_level(&blocks[usize::from(block)])
         }
+        Term::NotSkipped => !kind.is_skip(),
+        Term::NotDirect => !(kind.is_skip() || kind == MbKind::B(0)),
+        Term::Reference(list, field) => uses(mb, list, block) && counts(mb, list, block, field),
     }
+}
+
+/// A quarter sends its reference index and vectors of a list.
+pub(crate) fn uses(mb: &Mb, list: u8, quarter: u8) -> bool
+    requires { quarter < 4 }
+    ensures { result ≡ list_is_used mb.now list quarter }
+{
+    let sub = mb.subs[usize::from(quarter)];
+    mb.kind.prediction(sub, quarter).uses(list)
+}
+
+/// The reference index of a quarter counts as greater than 0 beside a macroblock whose pair flag is `field`.
+fn counts(mb: &Mb, list: u8, quarter: u8, field: bool) -> bool
+    requires list { list < 2 }
+    requires quarter { quarter < 4 }
+    ensures { result ≡ nat_lt (zero_ref field mb.now.field) (ref_at mb.now list quarter) }
+{
+    let zero = u8::from(!field && mb.field);
+    mb.refs[usize::from(list)][usize::from(quarter)] > zero
 }
 
 /// The pattern has a bit for a luma quarter.
