@@ -11,3 +11,6 @@ pub mod PutLaws
 pub mod DataLaws
 pub mod OneList
 pub mod Columns
+pub mod Decisions
+pub mod CodesDecided
+pub mod Decided
