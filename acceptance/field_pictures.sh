@@ -10,33 +10,15 @@
 # status is 0. Else it is 0 where all went well, 1 where the program fell short, and 2 where something could not be tried.
 . "$(dirname "$0")/streams.sh"
 
-# shown FILE: the checksums alone. The stream has no times, and those that ffmpeg guesses for fields among frames rest on the
-# number of zero bytes in front of a unit.
-shown() {
-    ffmpeg -v warning -nostdin -threads 1 -flags2 +ignorecrop -f h264 -i "$1" -fps_mode passthrough -f framemd5 - 2>&1 |
-        sed 's/^0,[^,]*,[^,]*,/0,/'
+# stays: the stream has the same frames in normal form, and that is written again as it stands
+stays() {
+    runs cavlc "$in" "$out" && shows "$in" "$out" && runs cavlc "$out" "$room/again.264" || return
+    cmp -s "$out" "$room/again.264" || { echo "what was written is written otherwise"; return 1; }
 }
 
-# changed: what is wrong with the output, of which the report is due but for the number of bytes; nothing where all is well
-changed() {
-    local due
-    recode cavlc
-    due="status 0, ok units $1 slices $2 macroblocks $3 in $(stat -c %s "$in") out $(stat -c %s "$out")"
-    if [ "$ended" != "$due" ]; then
-        echo "$ended; due is $due"
-    elif ! shown "$in" >"$room/in.md5" || [ "$(grep -c '^0,' "$room/in.md5")" -lt "$pictures" ]; then
-        echo "the decoder doesn't show $pictures pictures of the input"
-    elif ! shown "$out" >"$room/out.md5" || ! cmp -s "$room/in.md5" "$room/out.md5"; then
-        echo "the decoder shows other pictures of the output than of the input, or complains of it"
-    elif cp "$out" "$in" && recode cavlc && ! cmp -s "$in" "$out"; then
-        echo "what was written is written otherwise"
-    fi
-}
-
-pictures=8
 for seed in {1..12}; do
-    written=$(python3 "$(dirname "$0")/field_pictures.py" "$seed" "$pictures" "$in") || exit 2
-    judge "fields, seed $seed" "$(changed $written)"
+    fields "$seed"
+    judge "fields, seed $seed" "$(stays)"
 done
 
 told

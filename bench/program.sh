@@ -1,3 +1,4 @@
+# shellcheck shell=bash
 # Sourced by the benchmarks and by acceptance/, with the program's path if one is named. It gives $program, built with rt
 # where none is named, and $room, a temporary folder that goes when the script ends; and it lets python3 find measure.py.
 set -euo pipefail
