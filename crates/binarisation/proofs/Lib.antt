@@ -5,3 +5,4 @@ pub mod Spelling
 pub mod OneString
 pub mod Each
 pub mod ElementStrings
+pub mod HasBins

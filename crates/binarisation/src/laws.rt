@@ -1,6 +1,6 @@
 //! What the layers above rest on, whichever string of bins an element has.
 
-ghost use Rattle.std.specs.Prelude.{◌≡◌, ◌++◌, ℕ, ℤ, Bool, List, Option, Some, None};
+ghost use Rattle.std.specs.Prelude.{◌≡◌, ◌≢◌, ◌≤◌, ◌≤ℤ◌, ◌++◌, ℕ, ℤ, pos, negsuc, unsigned_abs, Bool, List, Option, Some, None};
 ghost use Rattle.cabac_engine.specs.Bins.{Slot, Promises};
 ghost use Rattle.binarisation.specs.BinString.{BinString, Spells, Reads, Writes, IsPrefixFree, HasOneString, WasGiven, WasRefused, WasPut};
 ghost use Rattle.binarisation.specs.MacroblockType.{type_i, type_p, type_b, sub_p, sub_b};
@@ -36,6 +36,22 @@ pub fn each_value_has_one_string()
     ensures mvd_y { (inc : ℕ) → HasOneString (mvd 47 inc) }
     ensures pattern_luma { (inc : ℕ) → HasOneString (pattern_luma inc) }
     ensures pattern_chroma { (first second : ℕ) → HasOneString (pattern_chroma first second) }
+{}
+
+/// Each value in range has bins.
+pub fn each_value_in_range_has_bins()
+    ensures type_i { (inc number : ℕ) → number ≤ 25 → (bins : List (Slot × Bool)) × Spells (type_i inc) bins number }
+    ensures type_p { (number : ℕ) → number ≤ 30 → number ≢ 4 → (bins : List (Slot × Bool)) × Spells type_p bins number }
+    ensures type_b { (inc number : ℕ) → number ≤ 48 → (bins : List (Slot × Bool)) × Spells (type_b inc) bins number }
+    ensures sub_p { (number : ℕ) → number ≤ 3 → (bins : List (Slot × Bool)) × Spells sub_p bins number }
+    ensures sub_b { (number : ℕ) → number ≤ 12 → (bins : List (Slot × Bool)) × Spells sub_b bins number }
+    ensures mode { (value : ℕ) → value ≤ 7 → (bins : List (Slot × Bool)) × Spells mode bins value }
+    ensures chroma_mode { (inc value : ℕ) → value ≤ 3 → (bins : List (Slot × Bool)) × Spells (chroma_mode inc) bins value }
+    ensures ref_idx { (inc value : ℕ) → value ≤ 31 → (bins : List (Slot × Bool)) × Spells (ref_idx inc) bins value }
+    ensures qp_delta { (inc : ℕ) (value : ℤ) → negsuc 25 ≤ℤ value → value ≤ℤ pos 25 → (bins : List (Slot × Bool)) × Spells (qp_delta inc) bins value }
+    ensures mvd_x { (inc : ℕ) (value : ℤ) → unsigned_abs value ≤ 32767 → (bins : List (Slot × Bool)) × Spells (mvd 40 inc) bins value }
+    ensures mvd_y { (inc : ℕ) (value : ℤ) → unsigned_abs value ≤ 32767 → (bins : List (Slot × Bool)) × Spells (mvd 47 inc) bins value }
+    ensures pattern_chroma { (first second value : ℕ) → value ≤ 2 → (bins : List (Slot × Bool)) × Spells (pattern_chroma first second) bins value }
 {}
 
 /// The bins of a number that was read were given by the source, one after another.

@@ -4,3 +4,4 @@ pub mod Neighbours
 pub mod Segments
 pub mod StartingStates
 pub mod Steps
+pub mod OpenBins

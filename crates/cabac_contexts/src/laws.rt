@@ -1,13 +1,17 @@
 //! What the steps of a coder with its contexts say of the bits of a segment, and what increments rest on.
 
-ghost use Rattle.std.specs.Prelude.{◌≡◌, ◌<◌, ◌++◌, ◌∷◌, [], ℕ, Bool, true, List};
-ghost use Rattle.cabac_engine.specs.Bins.{Slot, at_end, Gives, Promises, Puts};
+ghost use Rattle.std.specs.List.{AllByRecursion};
+ghost use Rattle.std.specs.Prelude.{◌≡◌, ◌<◌, ◌++◌, ◌∷◌, [], ℕ, Bool, true, false, List, Some};
+ghost use Rattle.bit_texts.specs.Bits.{EndsInOne};
+ghost use Rattle.cabac_engine.specs.Bins.{Slot, at_end, is_last, Gives, Promises, Puts};
 ghost use Rattle.h264_types.specs.declared.macroblock.Mb.{Mb};
 ghost use Rattle.h264_types.specs.declared.slice_shape.SliceShape.{SliceShape};
 ghost use Rattle.mb_neighbours.specs.Place.{IsPlace, number_of};
 ghost use Rattle.mb_neighbours.specs.declared.place.At.{At};
 ghost use Rattle.cabac_contexts.specs.declared.term.Term.{Term};
+ghost use Rattle.cabac_contexts.specs.Initial.{starting_states};
 ghost use Rattle.cabac_contexts.specs.States.{state_of};
+ghost use Rattle.init_table.specs.declared.table.InitTable.{InitTable};
 ghost use Rattle.cabac_contexts.specs.Terms.{term_of, flag_a, flag_b, magnitude_of, magnitudes};
 ghost use Rattle.cabac_contexts.specs.Coders.{InCoding, OutCoding, SegmentBits, HasGiven, GivesBin, HasTaken, TakesBin};
 
@@ -34,6 +38,18 @@ pub fn an_ended_segment_took_its_code()
     ensures { (all : List Bool) (start : ℕ → ℕ × Bool) (earlier : List (Slot × Bool)) (d : InCoding)
         → HasGiven all start (earlier ++ (at_end, true) ∷ []) d
         → (code : List Bool) × SegmentBits start (earlier ++ (at_end, true) ∷ []) code × (all ≡ code ++ d.decoder.left) }
+{}
+
+/// Bins that go on, and then an end bin of 1, have a code whose last bit is 1, where the state of each context is at most 63.
+pub fn each_segment_has_a_code()
+    ensures { (start : ℕ → ℕ × Bool) (bins : List (Slot × Bool)) → ((ctx : ℕ) → (start ctx).0 < 64) → AllByRecursion (λ bin. is_last bin.0 (Some bin.1) ≡ false) bins
+        → (code : List Bool) × SegmentBits start (bins ++ (at_end, true) ∷ []) code × EndsInOne code }
+{}
+
+/// The state of a context is at most 63, at the start of a slice and behind bins.
+pub fn states_are_at_most_63()
+    ensures first { (init : InitTable) (qp column ctx : ℕ) → (starting_states init qp column ctx).0 < 64 }
+    ensures behind { (start : ℕ → ℕ × Bool) (bins : List (Slot × Bool)) → ((ctx : ℕ) → (start ctx).0 < 64) → (ctx : ℕ) → (state_of start bins ctx).0 < 64 }
 {}
 
 /// The bins of a run of steps are those that an encoder took.

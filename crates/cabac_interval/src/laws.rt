@@ -19,6 +19,11 @@ pub fn a_code_is_of_one_list_of_bins()
         → bins ≡ others }
 {}
 
+/// The bins of a segment have a code whose last bit is 1.
+pub fn each_segment_has_a_closing_code()
+    ensures { (bins : List Bin) → IsSegment bins → (code : List Bool) × IsClosingCode bins code }
+{}
+
 /// The bins of a segment have at most one code whose last bit is 1.
 pub fn one_code_ends_in_one()
     ensures { (bins : List Bin) (code other : List Bool)

@@ -5,3 +5,4 @@ pub mod Written
 pub mod Spelled
 pub mod OneString
 pub mod Validity
+pub mod ResidualBins

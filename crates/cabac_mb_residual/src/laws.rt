@@ -5,6 +5,7 @@ ghost use Rattle.binarisation.specs.BinString.{Spells, IsPrefixFree, HasOneStrin
 ghost use Rattle.cabac_engine.specs.Bins.{Slot};
 ghost use Rattle.h264_types.specs.Kind.{is_i_16x16};
 ghost use Rattle.h264_types.specs.Sizes.{HasSizes};
+ghost use Rattle.h264_types.specs.Slice.{IsInPicture};
 ghost use Rattle.h264_types.specs.declared.macroblock.Mb.{Mb};
 ghost use Rattle.h264_types.specs.declared.slice_shape.SliceShape.{SliceShape};
 ghost use Rattle.cabac_mb_residual.specs.Levels.{IsResidual, without_levels};
@@ -24,4 +25,9 @@ pub fn each_residual_has_one_string()
 /// transform.
 pub fn what_is_spelled_is_a_residual()
     ensures { (shape : SliceShape) (done : List Mb) (at : ℕ) (mb : Mb) (bins : List (Slot × Bool)) (m : Mb) → HasSizes mb → (mb.t8 ≡ true → is_i_16x16 mb.kind ≡ false) → Spells (residual shape done at (without_levels mb)) bins m → IsResidual m × HasSizes m × (without_levels m ≡ without_levels mb) }
+{}
+
+/// A residual that may be written has bins.
+pub fn each_residual_has_bins()
+    ensures { (shape : SliceShape) (done : List Mb) (at : ℕ) (mb : Mb) → IsInPicture shape at → HasSizes mb → IsResidual mb → (bins : List (Slot × Bool)) × Spells (residual shape done at (without_levels mb)) bins mb }
 {}

@@ -1,3 +1,4 @@
 pub mod Blocks
 pub mod OneString
 pub mod BlockLevels
+pub mod BlockBins
