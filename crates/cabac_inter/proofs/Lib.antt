@@ -1,0 +1,13 @@
+pub mod Puts
+pub mod Places
+pub mod Fronts
+pub mod Alike
+pub mod SubSteps
+pub mod RefSteps
+pub mod VectorSteps
+pub mod Whole
+pub mod Begun
+pub mod Spelled
+pub mod SpelledLists
+pub mod OnePrediction
+pub mod ValidPrediction

@@ -1,0 +1,2 @@
+pub mod InterPrediction
+pub mod Stages
