@@ -11,3 +11,4 @@ pub mod Spelled
 pub mod SpelledLists
 pub mod OnePrediction
 pub mod ValidPrediction
+pub mod PredictionBins
