@@ -13,8 +13,6 @@
 . "$scripts/inter_streams.sh"
 
 clip "testsrc2=size=SIZE,rotate=a=t:fillcolor=gray" 352 288 12
-refused "CABAC" cavlc "outside unit 3 unbuilt" --profile high --bframes 2
-refused "to CABAC" cabac "outside unit 3 unbuilt" "${high[@]}" --bframes 2
 refused "macroblock pairs" cavlc "outside unit 4 unbuilt" "${high[@]}" --bframes 2 --tff
 refused "profile Baseline" cavlc "outside unit 0 profile" --profile baseline
 refused "samples of 10 bits" cavlc "outside unit 0 profile" --profile high10 --output-depth 10 --no-cabac

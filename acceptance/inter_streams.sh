@@ -1,9 +1,10 @@
 # shellcheck shell=bash disable=SC2154,SC2034
 # Sourced by the scripts of P and B slices: the clips that x264 codes, in CAVLC where nothing else is said.
 
-# x264 says High of CAVLC where the 8x8 transform is on, and Main where there are B slices or weights
+# x264 says High of CAVLC where the 8x8 transform is on, and Main where there are B slices or weights. In CABAC it gives Main
+# levels that CAVLC hasn't there, where the quantiser is below 12.
 high=(--profile high --no-cabac --8x8dct --keyint 250 --no-scenecut --b-adapt 0)
-main=(--profile main --no-cabac --keyint 250 --no-scenecut --b-adapt 0)
+main=(--profile main --no-cabac --keyint 250 --no-scenecut --b-adapt 0 --qpmin 12)
 
 clip "testsrc2=size=SIZE,rotate=a=t:fillcolor=gray" 352 288 12
 same "P slices, one reference" 1 "${high[@]}" --bframes 0 --ref 1 --crf 23
@@ -50,7 +51,7 @@ same "intra macroblocks and I_PCM in P and B slices" 2 "${high[@]}" --bframes 2 
 squares="lum=255*mod(floor(X/16)+floor(Y/16)+N\,2):cb=255*mod(floor(X/8)+N\,2):cr=255*mod(floor(Y/4)+N\,2)"
 clip "nullsrc=size=SIZE,geq=$squares" 176 144 10
 same "squares, quantiser 1" 1 "${high[@]}" --bframes 2 --qp 1
-same "squares, weights" 1 "${main[@]}" --bframes 2 --qp 10 --weightp 2
+same "squares, weights" 1 "${main[@]}" --bframes 2 --qp 16 --weightp 2
 
 clip "mandelbrot=size=SIZE" 1920 1080 6
 same "a large picture" 8 "${high[@]}" --bframes 2 --ref 3 --crf 22 --slices 8

@@ -40,28 +40,51 @@ def peak_memory(command, stream):
     return peak
 
 
+class Recoder:
+    """Runs of h264recode with a wanted layer and a table, beside another program, and what is due for them."""
+
+    def __init__(self, program, layer="cavlc", table="flat", other=("cat",), rounds=ROUNDS):
+        self.words = [program, "recode", "--to", layer, "--table", table]
+        self.other, self.rounds = other, rounds
+
+    def run(self, stream, place, report, due=None):
+        """The time of a run, which must give this report and write the bytes of the file `due`, where there is one."""
+        taken, told = seconds(self.words, stream, place)
+        if told != report:
+            sys.exit(f"the report is {told!r}")
+        if due and not filecmp.cmp(place, due, shallow=False):
+            sys.exit("the output isn't what is due")
+        return taken
+
+    def run_other(self, stream, place):
+        """The time of a run of the other program, which must say nothing."""
+        taken, complaint = seconds(self.other, stream, place)
+        if complaint:
+            sys.exit(f"{self.other[0]} complains: {complaint}")
+        return taken
+
+    def compare(self, stream, place, report, due=None):
+        """Prints the least time of both programs, and returns both."""
+        # In turn, so that both meet the same load. The first round warms the caches.
+        rounds = [(self.run_other(stream, place), self.run(stream, place, report, due)) for _ in range(1 + self.rounds)]
+        beside, taken = map(min, zip(*rounds[1:]))
+        name = f"to {place}" if place == "/dev/null" else "to a file"
+        print(f"{name}: {self.other[0]} {beside:.3f} s, h264recode {taken:.3f} s, ratio {taken / beside:.2f}")
+        return beside, taken
+
+    def compare_memory(self, stream):
+        """Prints the peak memory of both programs."""
+        sizes = peak_memory(self.other, stream), peak_memory(self.words, stream)
+        print(f"peak memory: {self.other[0]} {sizes[0]} KiB, h264recode {sizes[1]} KiB")
+
+
 def measure(program, stream, report, output, due=None, other=("cat",)):
     """
     Prints the times and the peak memory of another program, which has the stream as its input too, and of h264recode, from
-    CAVLC to CAVLC. Each run's report must be the one that is due, and the output file the bytes of the file `due`, where
-    there is one. The other program must say nothing.
+    CAVLC to CAVLC.
     """
-    recode = [program, "recode", "--to", "cavlc", "--table", "flat"]
+    recoder = Recoder(program, other=other)
     print(f"the stream: {report}")
-    for place in "/dev/null", output:
-        # In turn, so that both meet the same load; the least time of each counts. The first round warms the caches.
-        rounds = []
-        for _ in range(1 + ROUNDS):
-            beside, complaint = seconds(other, stream, place)
-            if complaint:
-                sys.exit(f"{other[0]} complains: {complaint}")
-            taken, told = seconds(recode, stream, place)
-            if told != report:
-                sys.exit(f"the report is {told!r}")
-            if due and place == output and not filecmp.cmp(output, due, shallow=False):
-                sys.exit("the output isn't what is due")
-            rounds.append((beside, taken))
-        beside, taken = map(min, zip(*rounds[1:]))
-        name = "to a file" if place == output else f"to {place}"
-        print(f"{name}: {other[0]} {beside:.3f} s, h264recode {taken:.3f} s, ratio {taken / beside:.2f}")
-    print(f"peak memory: {other[0]} {peak_memory(other, stream)} KiB, h264recode {peak_memory(recode, stream)} KiB")
+    recoder.compare(stream, "/dev/null", report)
+    recoder.compare(stream, output, report, due)
+    recoder.compare_memory(stream)
