@@ -1,23 +1,21 @@
--- mb_qp_delta and the residual, and the whole macroblock.
-use Rattle.std.proofs.Common.{◌≡◌, ℕ, ℤ, Bool, true, false, List, Option, Some, None, refl, sym, subst, ◌∙◌}
+-- transform_size_8x8_flag behind the pattern, mb_qp_delta and the residual, and the whole macroblock.
+use Rattle.std.proofs.Common.{◌≡◌, ℕ, ℤ, Bool, true, false, List, Option, Some, None, refl, sym, ap, ◌∙◌}
 use Rattle.cabac_engine.specs.Bins.{Slot}
 use Rattle.binarisation.specs.BinString.{Value, Reads, Writes, ◌>>=◌}
 use Rattle.binarisation.specs.Elements as syntax
-use Rattle.binarisation.specs.MacroblockType as types
-use Rattle.binarisation.proofs.Strings.{reads_then, reads_none, writes_then}
-use Rattle.h264_types.specs.Kind.{is_i_pcm}
+use Rattle.binarisation.proofs.Strings.{reads_none}
+use Rattle.h264_types.specs.Kind.{is_intra, is_i_pcm}
 use Rattle.h264_types.specs.Slice.{IsInPicture}
-use Rattle.h264_types.specs.Sent.{sends_qp_delta}
+use Rattle.h264_types.specs.Sent.{sends_t8_last, sends_qp_delta}
+use Rattle.h264_types.proofs.KindLaws.{unset}
 use Rattle.h264_types.specs.declared.macroblock.Mb.{Mb}
 use Rattle.h264_types.specs.declared.slice_shape.SliceShape.{SliceShape}
-use Rattle.cabac_contexts.specs.declared.term.Term.TheVariants.{OtherType}
+use Rattle.cabac_contexts.specs.declared.term.Term.TheVariants.{Transform8}
 use Rattle.cabac_contexts.specs.Increments as incs
 use Rattle.cabac_mb_residual.specs.MacroblockResidual.{residual}
 use Rattle.cabac_mb_residual.specs.Levels.{without_levels}
-use Rattle.cabac_macroblock.specs.IntraPrediction.{intra_prediction}
-use Rattle.cabac_macroblock.specs.CodedBlockPattern.{pattern}
-use Rattle.cabac_macroblock.specs.MacroblockLayer.{qp_delta, coding, elements, of_type, macroblock_i}
-use Rattle.cabac_macroblock.specs.Stages.{before_qp_delta}
+use Rattle.cabac_macroblock.specs.MacroblockLayer.{last_transform_size, qp_delta, coding, intra_elements, inter_elements, elements}
+use Rattle.cabac_macroblock.specs.Stages.{before_last_t8, before_qp_delta}
 use Rattle.cabac_macroblock.proofs.Puts.{reads_put, writes_put}
 use Rattle.cabac_macroblock.proofs.WholeIncrements.{same_sum}
 
@@ -48,33 +46,46 @@ pub coding_unsent : (shape : SliceShape) (done : List Mb) (at : ℕ) (mb : Mb) �
 unfolding coding
 coding_unsent shape done at mb e = rw e refl
 
-pub elements_sent : (shape : SliceShape) (done : List Mb) (at : ℕ) (mb : Mb) → is_i_pcm mb.kind ≡ false → elements shape done at mb ≡ (intra_prediction shape done at mb >>= pattern shape done at >>= coding shape done at)
+-- ---- transform_size_8x8_flag behind the pattern
+
+pub reads_last_t8 : {S : Type 0} (step : S → Slot → Option Bool → S → Type 0) (shape : SliceShape) (done : List Mb) (at : ℕ) (mb made : Mb) (inc : ℕ) (flag : Bool) (s t : S) → sends_t8_last shape mb.kind mb.subs mb.pattern ≡ true → inc ≡ incs.t8 shape done at mb.field mb → made ≡ record mb { t8 = flag }
+    → Reads step (syntax.t8 inc) (Some flag) s t → Reads step (last_transform_size shape done at mb) (Some made) s t
+unfolding last_transform_size
+reads_last_t8 step shape done at mb made inc flag s t sent e is first = rw sent (reads_put step (syntax.t8 (incs.t8 shape done at mb.field mb)) (λ flag. record mb { t8 = flag }) flag made s t is (rw e at first))
+
+pub reads_last_t8_none : {S : Type 0} (step : S → Slot → Option Bool → S → Type 0) (shape : SliceShape) (done : List Mb) (at : ℕ) (mb : Mb) (inc : ℕ) (s t : S) → sends_t8_last shape mb.kind mb.subs mb.pattern ≡ true → inc ≡ incs.t8 shape done at mb.field mb
+    → Reads step (syntax.t8 inc) None s t → Reads step (last_transform_size shape done at mb) None s t
+unfolding last_transform_size
+reads_last_t8_none step shape done at mb inc s t sent e first = rw sent (reads_none step (syntax.t8 (incs.t8 shape done at mb.field mb)) (λ flag. Value (record mb { t8 = flag })) s t (rw e at first))
+
+pub reads_last_t8_unsent : {S : Type 0} (step : S → Slot → Option Bool → S → Type 0) (shape : SliceShape) (done : List Mb) (at : ℕ) (mb : Mb) (s : S) → sends_t8_last shape mb.kind mb.subs mb.pattern ≡ false → Reads step (last_transform_size shape done at mb) (Some mb) s s
+unfolding last_transform_size
+reads_last_t8_unsent step shape done at mb s sent = rw sent (refl, refl)
+
+pub writes_last_t8 : {S : Type 0} (step : S → Slot → Bool → S → Type 0) (shape : SliceShape) (done : List Mb) (at : ℕ) (mb : Mb) (inc : ℕ) (s t : S) → IsInPicture shape at → sends_t8_last shape mb.kind mb.subs mb.pattern ≡ true → inc ≡ incs.t8 shape done at mb.field mb
+    → Writes step (syntax.t8 inc) mb.t8 s t → Writes step (last_transform_size shape done at (before_last_t8 mb)) (before_qp_delta mb) s t
+unfolding last_transform_size
+writes_last_t8 step shape done at mb inc s t inside sent e first =
+    let same : inc ≡ incs.t8 shape done at mb.field (before_last_t8 mb) = e ∙ same_sum Transform8 shape done at mb.field mb (before_last_t8 mb) inside in
+    rw sent (writes_put step (syntax.t8 (incs.t8 shape done at mb.field (before_last_t8 mb))) (λ flag. record (before_last_t8 mb) { t8 = flag }) mb.t8 (before_qp_delta mb) s t refl (rw same at first))
+
+pub writes_last_t8_unsent : {S : Type 0} (step : S → Slot → Bool → S → Type 0) (shape : SliceShape) (done : List Mb) (at : ℕ) (mb : Mb) (s : S) → sends_t8_last shape mb.kind mb.subs mb.pattern ≡ false → (mb.t8 ≡ true → sends_t8_last shape mb.kind mb.subs mb.pattern ≡ true)
+    → Writes step (last_transform_size shape done at (before_last_t8 mb)) (before_qp_delta mb) s s
+unfolding last_transform_size
+writes_last_t8_unsent step shape done at mb s sent only =
+    let none : mb.t8 ≡ false = unset mb.t8 (sends_t8_last shape mb.kind mb.subs mb.pattern) only sent in
+    rw sent (ap (λ flag. record (before_last_t8 mb) { t8 = flag }) (sym none), refl)
+
+-- ---- the elements behind mb_type
+
+pub elements_pcm : (shape : SliceShape) (done : List Mb) (at : ℕ) (mb : Mb) → is_i_pcm mb.kind ≡ true → elements shape done at mb ≡ Value mb
 unfolding elements
-elements_sent shape done at mb e = rw e refl
+elements_pcm shape done at mb e = rw e refl
 
-pub elements_unsent : (shape : SliceShape) (done : List Mb) (at : ℕ) (mb : Mb) → is_i_pcm mb.kind ≡ true → elements shape done at mb ≡ Value mb
+pub elements_intra : (shape : SliceShape) (done : List Mb) (at : ℕ) (mb : Mb) → is_i_pcm mb.kind ≡ false → is_intra mb.kind ≡ true → elements shape done at mb ≡ intra_elements shape done at mb
 unfolding elements
-elements_unsent shape done at mb e = rw e refl
+elements_intra shape done at mb e h = rw (e, h) refl
 
--- ---- mb_type
-
-pub reads_type : {S : Type 0} (step : S → Slot → Option Bool → S → Type 0) (shape : SliceShape) (done : List Mb) (at : ℕ) (field : Bool) (inc number : ℕ) (begun : Mb) (result : Option Mb) (s m t : S) → inc ≡ incs.type_i shape done at field (of_type field 0) → begun ≡ of_type field number
-    → Reads step (types.type_i inc) (Some number) s m → Reads step (elements shape done at begun) result m t → Reads step (macroblock_i shape done at field) result s t
-unfolding macroblock_i
-reads_type {S} step shape done at field inc number begun result s m t e start first others =
-    reads_then step (types.type_i (incs.type_i shape done at field (of_type field 0))) (λ number. elements shape done at (of_type field number)) number result s m t (rw e at first)
-    (subst (λ (x : Mb). Reads step (elements shape done at x) result m t) start others)
-
-pub reads_no_type : {S : Type 0} (step : S → Slot → Option Bool → S → Type 0) (shape : SliceShape) (done : List Mb) (at : ℕ) (field : Bool) (inc : ℕ) (s t : S) → inc ≡ incs.type_i shape done at field (of_type field 0)
-    → Reads step (types.type_i inc) None s t → Reads step (macroblock_i shape done at field) None s t
-unfolding macroblock_i
-reads_no_type step shape done at field inc s t e first =
-    reads_none step (types.type_i (incs.type_i shape done at field (of_type field 0))) (λ number. elements shape done at (of_type field number)) s t (rw e at first)
-
-pub writes_type : {S : Type 0} (step : S → Slot → Bool → S → Type 0) (shape : SliceShape) (done : List Mb) (at : ℕ) (mb begun value : Mb) (inc number : ℕ) (s m t : S) → IsInPicture shape at → inc ≡ incs.type_i shape done at mb.field mb → of_type mb.field number ≡ begun
-    → Writes step (types.type_i inc) number s m → Writes step (elements shape done at begun) value m t → Writes step (macroblock_i shape done at mb.field) value s t
-unfolding macroblock_i
-writes_type {S} step shape done at mb begun value inc number s m t inside e start first others =
-    let same : inc ≡ incs.type_i shape done at mb.field (of_type mb.field 0) = e ∙ same_sum OtherType shape done at mb.field mb (of_type mb.field 0) inside in
-    writes_then step (types.type_i (incs.type_i shape done at mb.field (of_type mb.field 0))) (λ number. elements shape done at (of_type mb.field number)) number value s m t (rw same at first)
-    (subst (λ (x : Mb). Writes step (elements shape done at x) value m t) (sym start) others)
+pub elements_inter : (shape : SliceShape) (done : List Mb) (at : ℕ) (mb : Mb) → is_i_pcm mb.kind ≡ false → is_intra mb.kind ≡ false → elements shape done at mb ≡ inter_elements shape done at mb
+unfolding elements
+elements_inter shape done at mb e h = rw (e, h) refl

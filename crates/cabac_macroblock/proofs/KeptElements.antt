@@ -1,13 +1,14 @@
 -- The elements before each one stay.
-use Rattle.std.proofs.Common.{◌≡◌, ℕ, ◌*◌, pos, true, false, cond, List, refl, ap, ◌∙◌}
+use Rattle.std.proofs.Common.{◌≡◌, ℕ, ◌*◌, pos, Bool, true, false, cond, List, refl, ap, ◌∙◌}
 use Rattle.std.specs.Prelude.{not, ◌==◌, slice_set}
 use Rattle.binarisation.specs.BinString.{Value, ◌>>=◌}
 use Rattle.binarisation.specs.Elements as syntax
 use Rattle.cabac_residual.specs.Block.{block}
-use Rattle.h264_types.specs.Kind.{is_i_nxn, is_i_16x16, is_i_pcm}
+use Rattle.h264_types.specs.Kind.{is_intra, is_i_nxn, is_i_16x16, is_i_pcm}
 use Rattle.h264_types.specs.Macroblock.{pattern_of}
-use Rattle.h264_types.specs.Sent.{sends_t8_first, mode_count, sends_pattern, sends_qp_delta}
+use Rattle.h264_types.specs.Sent.{sends_t8_first, sends_t8_last, mode_count, sends_pattern, sends_qp_delta}
 use Rattle.h264_types.specs.declared.macroblock.Mb.{Mb}
+use Rattle.h264_types.specs.declared.macroblock.MbKind.{MbKind}
 use Rattle.h264_types.specs.declared.slice_shape.SliceShape.{SliceShape}
 use Rattle.cabac_contexts.specs.Terms.{has_luma}
 use Rattle.cabac_contexts.specs.Increments as incs
@@ -16,8 +17,11 @@ use Rattle.cabac_mb_residual.specs.MacroblockResidual.{is_field, list, luma_dc, 
 use Rattle.cabac_mb_residual.specs.Levels.{without_levels}
 use Rattle.cabac_macroblock.specs.IntraPrediction.{transform_size, any_mode, mode_at, modes, chroma_mode, intra_prediction}
 use Rattle.cabac_macroblock.specs.CodedBlockPattern.{with_luma_bit, luma_bit, luma_bits, chroma_pattern, pattern}
-use Rattle.cabac_macroblock.specs.MacroblockLayer.{qp_delta, coding, elements}
-use Rattle.cabac_macroblock.specs.Stages.{before_t8, before_modes, before_chroma_mode, before_pattern, before_chroma_pattern, before_qp_delta}
+use Rattle.cabac_inter.specs.InterPrediction.{inter_prediction}
+use Rattle.cabac_macroblock.specs.MbType.{of_kind}
+use Rattle.cabac_macroblock.specs.MacroblockLayer.{last_transform_size, qp_delta, coding, intra_elements, inter_elements, elements}
+use Rattle.cabac_macroblock.proofs.InterLaws.{inter_others}
+use Rattle.cabac_macroblock.specs.Stages.{before_t8, before_modes, before_chroma_mode, before_inter, before_pattern, before_chroma_pattern, before_last_t8, before_qp_delta}
 use Rattle.cabac_macroblock.proofs.Kept.{Keeps, keeps_value, keeps_then, keeps_put, keeps_if, keeps_each}
 
 -- ---- the residual: levels alone are put
@@ -134,12 +138,52 @@ prediction_kept shape done at w mb is =
     (λ m h bins value g. ap before_t8 (modes_kept (before_modes m) m refl bins value g) ∙ h))
     (λ m h bins value g. ap before_t8 (chroma_mode_kept shape done at (before_chroma_mode m) m refl bins value g) ∙ h)
 
-pub elements_kept : (shape : SliceShape) (done : List Mb) (at : ℕ) (w mb : Mb) → before_t8 mb ≡ w → Keeps (λ m. before_t8 m ≡ w) (elements shape done at mb)
-unfolding elements
-elements_kept shape done at w mb is =
+pub intra_elements_kept : (shape : SliceShape) (done : List Mb) (at : ℕ) (w mb : Mb) → before_t8 mb ≡ w → Keeps (λ m. before_t8 m ≡ w) (intra_elements shape done at mb)
+unfolding intra_elements
+intra_elements_kept shape done at w mb is =
     let P : Mb → Type 0 = λ m. before_t8 m ≡ w in
-    keeps_if P (is_i_pcm mb.kind) (Value mb) (intra_prediction shape done at mb >>= pattern shape done at >>= coding shape done at) (keeps_value P mb is)
-    (keeps_then P P (intra_prediction shape done at mb >>= pattern shape done at) (coding shape done at)
+    keeps_then P P (intra_prediction shape done at mb >>= pattern shape done at) (coding shape done at)
     (keeps_then P P (intra_prediction shape done at mb) (pattern shape done at) (prediction_kept shape done at w mb is)
     (λ m h bins value g. ap before_t8 (pattern_kept shape done at (before_pattern m) m refl bins value g) ∙ h))
-    (λ m h bins value g. ap before_t8 (coding_kept shape done at (before_qp_delta m) m refl bins value g) ∙ h))
+    (λ m h bins value g. ap before_t8 (coding_kept shape done at (before_qp_delta m) m refl bins value g) ∙ h)
+
+-- ---- P and B macroblocks
+
+pub last_size_kept : (shape : SliceShape) (done : List Mb) (at : ℕ) (w mb : Mb) → before_last_t8 mb ≡ w → Keeps (λ m. before_last_t8 m ≡ w) (last_transform_size shape done at mb)
+unfolding last_transform_size
+last_size_kept shape done at w mb is =
+    let P : Mb → Type 0 = λ m. before_last_t8 m ≡ w in
+    keeps_if P (sends_t8_last shape mb.kind mb.subs mb.pattern) (syntax.t8 (incs.t8 shape done at mb.field mb) >>= (λ flag. Value (record mb { t8 = flag }))) (Value mb)
+    (keeps_put P (syntax.t8 (incs.t8 shape done at mb.field mb)) (λ flag. record mb { t8 = flag }) (λ flag. is)) (keeps_value P mb is)
+
+pub inter_kept : (shape : SliceShape) (done : List Mb) (at : ℕ) (w mb : Mb) → before_inter mb ≡ w → Keeps (λ m. before_inter m ≡ w) (inter_prediction shape done at mb)
+inter_kept shape done at w mb is bins value h = ap before_inter (inter_others shape done at mb bins value h) ∙ is
+
+pub inter_elements_kept : (shape : SliceShape) (done : List Mb) (at : ℕ) (w mb : Mb) → before_inter mb ≡ w → Keeps (λ m. before_inter m ≡ w) (inter_elements shape done at mb)
+unfolding inter_elements
+inter_elements_kept shape done at w mb is =
+    let P : Mb → Type 0 = λ m. before_inter m ≡ w in
+    keeps_then P P (inter_prediction shape done at mb >>= pattern shape done at >>= last_transform_size shape done at) (coding shape done at)
+    (keeps_then P P (inter_prediction shape done at mb >>= pattern shape done at) (last_transform_size shape done at)
+    (keeps_then P P (inter_prediction shape done at mb) (pattern shape done at) (inter_kept shape done at w mb is)
+    (λ m h bins value g. ap before_inter (pattern_kept shape done at (before_pattern m) m refl bins value g) ∙ h))
+    (λ m h bins value g. ap before_inter (last_size_kept shape done at (before_last_t8 m) m refl bins value g) ∙ h))
+    (λ m h bins value g. ap before_inter (coding_kept shape done at (before_qp_delta m) m refl bins value g) ∙ h)
+
+-- ---- the type and the pair flag stay
+
+abbrev pub IsTypedAs : Bool → MbKind → Mb → Type 0
+IsTypedAs field kind m = (m.kind ≡ kind) × (m.field ≡ field) × (m.ref0 ≡ false)
+
+pub elements_typed : (shape : SliceShape) (done : List Mb) (at : ℕ) (field : Bool) (kind : MbKind) → Keeps (IsTypedAs field kind) (elements shape done at (of_kind field kind))
+unfolding elements
+elements_typed shape done at field kind =
+    let P : Mb → Type 0 = IsTypedAs field kind in
+    let w : Mb = of_kind field kind in
+    keeps_if P (is_i_pcm kind) (Value w) (cond (is_intra kind) (intra_elements shape done at w) (inter_elements shape done at w)) (keeps_value P w (refl, refl, refl))
+    (keeps_if P (is_intra kind) (intra_elements shape done at w) (inter_elements shape done at w)
+    (λ bins value h. by (before_t8 value) (intra_elements_kept shape done at w w refl bins value h))
+    (λ bins value h. by (before_inter value) (inter_elements_kept shape done at w w refl bins value h)))
+  where
+    by : (m : Mb) → m ≡ of_kind field kind → IsTypedAs field kind m
+    by m e = (ap (λ (n : Mb). n.kind) e, ap (λ (n : Mb). n.field) e, ap (λ (n : Mb). n.ref0) e)

@@ -3,11 +3,14 @@ pub mod WholeIncrements
 pub mod PredictionSteps
 pub mod PatternSteps
 pub mod CodingSteps
+pub mod TypeSteps
 pub mod Absent
 pub mod Kept
+pub mod Values
+pub mod InterLaws
 pub mod KeptElements
 pub mod OneStrings
+pub mod TypeLaws
 pub mod OneMacroblock
-pub mod Values
 pub mod ValidElements
 pub mod ValidMacroblock

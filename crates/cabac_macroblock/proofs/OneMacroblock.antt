@@ -1,21 +1,21 @@
 -- No macroblock has two strings of bins.
-use Rattle.std.proofs.Common.{◌≡◌, ℕ, ◌+◌, ◌-◌, ◌*◌, ◌%◌, ◌^◌, ◌<◌, ◌≤◌, Bool, true, false, List, length, refl, sym, ap, subst, ◌∙◌, arith}
+use Rattle.std.proofs.Common.{◌≡◌, ℕ, ◌+◌, ◌-◌, ◌*◌, ◌%◌, ◌^◌, ◌<◌, ◌≤◌, Bool, true, false, cond, List, length, refl, sym, ap, subst, ◌∙◌, arith}
 use Rattle.std.specs.Prelude.{slice_set, slice_index}
 use Rattle.std.specs.Int.{from_bool}
 use Rattle.std.proofs.Math.Nat.{add-mul-mod_self_left, mod-eq_of_lt, mul_assoc}
 use Rattle.std.proofs.lemmas.Nat.{pow_pos, pow-add}
 use Rattle.std.proofs.lemmas.List.{length-set, get_or-set_same, get_or-set_other}
 use Rattle.cabac_engine.specs.Bins.{Slot}
-use Rattle.binarisation.specs.BinString.{Value, Spells, ◌>>=◌, HasOneString}
+use Rattle.binarisation.specs.BinString.{BinString, Value, Spells, ◌>>=◌, HasOneString}
 use Rattle.binarisation.specs.Elements as syntax
-use Rattle.binarisation.specs.MacroblockType as types
 use Rattle.binarisation.proofs.OneString.{value_one, differ_one}
-use Rattle.binarisation.proofs.ElementStrings.{flag_one, mode_one, qp_delta_one, up_to_two_one, type_i_one}
+use Rattle.binarisation.proofs.ElementStrings.{flag_one, mode_one, qp_delta_one, up_to_two_one}
 use Rattle.binarisation.proofs.ElementStrings as strings
-use Rattle.h264_types.specs.Kind.{is_i_nxn, is_i_pcm}
-use Rattle.h264_types.specs.Sent.{sends_t8_first, mode_count, sends_pattern, sends_qp_delta}
+use Rattle.h264_types.specs.Kind.{is_intra, is_i_nxn, is_i_pcm, is_skip}
+use Rattle.h264_types.specs.Sent.{sends_t8_first, sends_t8_last, mode_count, sends_pattern, sends_qp_delta}
 use Rattle.h264_types.specs.declared.macroblock.Mb.{Mb}
-use Rattle.h264_types.specs.declared.macroblock.MbKind.TheVariants.{Intra}
+use Rattle.h264_types.specs.declared.macroblock.MbKind.{MbKind}
+use Rattle.h264_types.specs.declared.macroblock.MbKind.TheVariants.{Skip}
 use Rattle.h264_types.specs.declared.slice_shape.SliceShape.{SliceShape}
 use Rattle.cabac_contexts.specs.Increments as incs
 use Rattle.binarisation.specs.Each.{each}
@@ -23,10 +23,15 @@ use Rattle.cabac_mb_residual.specs.MacroblockResidual.{residual}
 use Rattle.cabac_mb_residual.specs.Levels.{without_levels}
 use Rattle.cabac_macroblock.specs.IntraPrediction.{transform_size, any_mode, mode_at, modes, chroma_mode, intra_prediction}
 use Rattle.cabac_macroblock.specs.CodedBlockPattern.{with_luma_bit, luma_bit, luma_bits, chroma_pattern, pattern}
-use Rattle.cabac_macroblock.specs.MacroblockLayer.{qp_delta, coding, elements, of_type, macroblock_i}
-use Rattle.cabac_macroblock.specs.Stages.{before_t8, before_modes, before_chroma_mode, before_pattern, before_chroma_pattern, before_qp_delta}
+use Rattle.cabac_inter.specs.InterPrediction.{inter_prediction}
+use Rattle.cabac_macroblock.specs.MbType.{of_kind, skip_flag, mb_type}
+use Rattle.cabac_macroblock.specs.MacroblockLayer.{last_transform_size, qp_delta, coding, intra_elements, inter_elements, elements, layer, macroblock}
+use Rattle.cabac_macroblock.proofs.CodingSteps.{elements_pcm, elements_intra, elements_inter}
+use Rattle.cabac_macroblock.proofs.InterLaws.{with_inter, inter_others, inter_one}
+use Rattle.cabac_macroblock.proofs.TypeLaws.{IsType, type_range, type_one, skip_one}
+use Rattle.cabac_macroblock.specs.Stages.{before_t8, before_modes, before_chroma_mode, before_inter, before_pattern, before_chroma_pattern, before_last_t8, before_qp_delta}
 use Rattle.cabac_macroblock.proofs.Kept.{Keeps, keeps_value, keeps_then, keeps_put, keeps_if, keeps_each, keeps_from}
-use Rattle.cabac_macroblock.proofs.KeptElements.{residual_kept, coding_kept, pattern_kept, chroma_pattern_kept, chroma_mode_kept, modes_kept, elements_kept}
+use Rattle.cabac_macroblock.proofs.KeptElements.{residual_kept, coding_kept, pattern_kept, chroma_pattern_kept, chroma_mode_kept, modes_kept, last_size_kept, elements_typed}
 use Rattle.binarisation.proofs.Each.{then_one_where, each_one_where}
 use Rattle.cabac_macroblock.proofs.OneStrings.{then_one_back, put_one, if_one}
 use Rattle.h264_types.proofs.KindLaws.{mode_count-most}
@@ -232,23 +237,97 @@ coding_one shape done at mb each_residual is =
     (λ m h. subst (λ (n : Mb). HasOneString (residual shape done at n)) h (each_residual m)) (λ m h. residual_kept shape done at m m h))
     (value_one mb)
 
-elements_one : (shape : SliceShape) (done : List Mb) (at : ℕ) (mb : Mb) → ((m : Mb) → HasOneString (residual shape done at (without_levels m))) → before_t8 mb ≡ mb → HasOneString (elements shape done at mb)
-unfolding elements
-elements_one shape done at mb each_residual is =
-    if_one (is_i_pcm mb.kind) (Value mb) (intra_prediction shape done at mb >>= pattern shape done at >>= coding shape done at) (value_one mb)
-    (then_one_back (λ (m : Mb). before_qp_delta m ≡ m) (intra_prediction shape done at mb >>= pattern shape done at) (coding shape done at) before_qp_delta
+intra_elements_one : (shape : SliceShape) (done : List Mb) (at : ℕ) (mb : Mb) → ((m : Mb) → HasOneString (residual shape done at (without_levels m))) → before_t8 mb ≡ mb → HasOneString (intra_elements shape done at mb)
+unfolding intra_elements
+intra_elements_one shape done at mb each_residual is =
+    then_one_back (λ (m : Mb). before_qp_delta m ≡ m) (intra_prediction shape done at mb >>= pattern shape done at) (coding shape done at) before_qp_delta
     (keeps_then (λ (m : Mb). before_pattern m ≡ m) (λ (m : Mb). before_qp_delta m ≡ m) (intra_prediction shape done at mb) (pattern shape done at) (prediction_settled shape done at mb is) (pattern_settled shape done at))
     (then_one_back (λ (m : Mb). before_pattern m ≡ m) (intra_prediction shape done at mb) (pattern shape done at) before_pattern (prediction_settled shape done at mb is) (prediction_one shape done at mb is)
     (pattern_one shape done at) (λ m h. pattern_kept shape done at m m h))
-    (λ m h. coding_one shape done at m each_residual h) (λ m h. coding_kept shape done at m m h))
+    (λ m h. coding_one shape done at m each_residual h) (λ m h. coding_kept shape done at m m h)
 
-pub macroblock_one : (shape : SliceShape) (done : List Mb) (at : ℕ) (field : Bool) → ((m : Mb) → HasOneString (residual shape done at (without_levels m))) → HasOneString (macroblock_i shape done at field)
-unfolding macroblock_i
+-- ---- P and B macroblocks
+
+-- behind the prediction, and behind the pattern, transform_size_8x8_flag is to come
+abbrev pub IsPredicted : Mb → Type 0
+IsPredicted m = (before_pattern m ≡ m) × (m.t8 ≡ false)
+
+pub inter_settled : (shape : SliceShape) (done : List Mb) (at : ℕ) (mb : Mb) → before_inter mb ≡ mb → Keeps IsPredicted (inter_prediction shape done at mb)
+inter_settled shape done at mb is bins value h =
+    let same : value ≡ with_inter mb value = inter_others shape done at mb bins value h in
+    let whole : before_inter (with_inter mb value) ≡ mb = is in
+    let settled : before_pattern (with_inter mb value) ≡ with_inter mb value = ap (λ (m : Mb). with_inter (before_pattern m) value) (sym is) ∙ ap (λ (m : Mb). with_inter m value) is in
+    (ap before_pattern same ∙ settled ∙ sym same, ap (λ (m : Mb). m.t8) same ∙ ap (λ (m : Mb). m.t8) (sym is))
+
+pub inter_pattern_settled : (shape : SliceShape) (done : List Mb) (at : ℕ) (mb : Mb) → IsPredicted mb → Keeps (λ m. before_last_t8 m ≡ m) (pattern shape done at mb)
+inter_pattern_settled shape done at mb (is, none) bins value h =
+    let t8 : value.t8 ≡ false = ap (λ (m : Mb). m.t8) (pattern_kept shape done at mb mb is bins value h) ∙ none in
+    ap (λ b. record (before_qp_delta value) { t8 = b }) (sym t8) ∙ pattern_settled shape done at mb is bins value h
+
+pub last_size_settled : (shape : SliceShape) (done : List Mb) (at : ℕ) (mb : Mb) → before_last_t8 mb ≡ mb → Keeps (λ m. before_qp_delta m ≡ m) (last_transform_size shape done at mb)
+unfolding last_transform_size
+last_size_settled shape done at mb is =
+    let P : Mb → Type 0 = λ m. before_qp_delta m ≡ m in
+    keeps_if P (sends_t8_last shape mb.kind mb.subs mb.pattern) (syntax.t8 (incs.t8 shape done at mb.field mb) >>= (λ flag. Value (record mb { t8 = flag }))) (Value mb)
+    (keeps_put P (syntax.t8 (incs.t8 shape done at mb.field mb)) (λ flag. record mb { t8 = flag }) (λ flag. ap (λ (m : Mb). record m { t8 = flag }) is))
+    (keeps_value P mb (ap before_qp_delta (sym is) ∙ is))
+
+last_size_one : (shape : SliceShape) (done : List Mb) (at : ℕ) (mb : Mb) → HasOneString (last_transform_size shape done at mb)
+unfolding last_transform_size
+last_size_one shape done at mb =
+    if_one (sends_t8_last shape mb.kind mb.subs mb.pattern) (syntax.t8 (incs.t8 shape done at mb.field mb) >>= (λ flag. Value (record mb { t8 = flag }))) (Value mb)
+    (put_one (syntax.t8 (incs.t8 shape done at mb.field mb)) (λ flag. record mb { t8 = flag }) (flag_one _) (λ a b e. ap (λ (m : Mb). m.t8) e)) (value_one mb)
+
+inter_elements_one : (shape : SliceShape) (done : List Mb) (at : ℕ) (mb : Mb) → ((m : Mb) → HasOneString (residual shape done at (without_levels m))) → HasOneString (inter_prediction shape done at mb) → before_inter mb ≡ mb
+    → HasOneString (inter_elements shape done at mb)
+unfolding inter_elements
+inter_elements_one shape done at mb each_residual one is =
+    let patterned = keeps_then IsPredicted (λ (m : Mb). before_last_t8 m ≡ m) (inter_prediction shape done at mb) (pattern shape done at) (inter_settled shape done at mb is) (inter_pattern_settled shape done at) in
+    then_one_back (λ (m : Mb). before_qp_delta m ≡ m) (inter_prediction shape done at mb >>= pattern shape done at >>= last_transform_size shape done at) (coding shape done at) before_qp_delta
+    (keeps_then (λ (m : Mb). before_last_t8 m ≡ m) (λ (m : Mb). before_qp_delta m ≡ m) (inter_prediction shape done at mb >>= pattern shape done at) (last_transform_size shape done at) patterned (last_size_settled shape done at))
+    (then_one_back (λ (m : Mb). before_last_t8 m ≡ m) (inter_prediction shape done at mb >>= pattern shape done at) (last_transform_size shape done at) before_last_t8 patterned
+    (then_one_back IsPredicted (inter_prediction shape done at mb) (pattern shape done at) before_pattern (inter_settled shape done at mb is) one
+    (λ m h. pattern_one shape done at m h.0) (λ m h. pattern_kept shape done at m m h.0))
+    (λ m h. last_size_one shape done at m) (λ m h. last_size_kept shape done at m m h))
+    (λ m h. coding_one shape done at m each_residual h) (λ m h. coding_kept shape done at m m h)
+
+-- ---- by the type
+
+elements_one : (shape : SliceShape) (done : List Mb) (at : ℕ) (field : Bool) (kind : MbKind) → ((m : Mb) → HasOneString (residual shape done at (without_levels m))) → IsType shape kind → HasOneString (elements shape done at (of_kind field kind))
+elements_one shape done at field kind each_residual (is, sent) = by (is_i_pcm kind) (is_intra kind) refl refl
+  where
+    mb : Mb
+    mb = of_kind field kind
+
+    by : (pcm intra : Bool) → is_i_pcm kind ≡ pcm → is_intra kind ≡ intra → HasOneString (elements shape done at mb)
+    by true intra e h = rw (elements_pcm shape done at mb e) (value_one mb)
+    by false true e h = rw (elements_intra shape done at mb e h) (intra_elements_one shape done at mb each_residual refl)
+    by false false e h = rw (elements_inter shape done at mb e h) (inter_elements_one shape done at mb each_residual (inter_one shape done at field kind h is) refl)
+
+layer_one : (shape : SliceShape) (done : List Mb) (at : ℕ) (field : Bool) → ((m : Mb) → HasOneString (residual shape done at (without_levels m))) → HasOneString (layer shape done at field)
+unfolding layer
+layer_one shape done at field each_residual =
+    then_one_where (IsType shape) (mb_type shape done at field) (λ kind. elements shape done at (of_kind field kind)) (type_range shape done at field) (type_one shape done at field)
+    (λ kind is. elements_one shape done at field kind each_residual is)
+    (λ x y first second value p q h g. sym (elements_typed shape done at field x first value h).0 ∙ (elements_typed shape done at field y second value g).0)
+
+-- a layer isn't that of a skipped macroblock
+layer_sent : (shape : SliceShape) (done : List Mb) (at : ℕ) (field : Bool) → Keeps (λ m. is_skip m.kind ≡ false) (layer shape done at field)
+unfolding layer
+layer_sent shape done at field =
+    keeps_then (IsType shape) (λ (m : Mb). is_skip m.kind ≡ false) (mb_type shape done at field) (λ kind. elements shape done at (of_kind field kind)) (type_range shape done at field)
+    (λ kind is bins value h. ap is_skip (elements_typed shape done at field kind bins value h).0 ∙ is.1)
+
+pub macroblock_one : (shape : SliceShape) (done : List Mb) (at : ℕ) (field : Bool) → ((m : Mb) → HasOneString (residual shape done at (without_levels m))) → HasOneString (macroblock shape done at field)
+unfolding macroblock
 macroblock_one shape done at field each_residual =
-    then_one_where (λ (n : ℕ). Unit {0}) (types.type_i (incs.type_i shape done at field (of_type field 0))) (λ number. elements shape done at (of_type field number)) (λ bins value h. tt) (type_i_one _)
-    (λ number u. elements_one shape done at (of_type field number) each_residual refl)
-    (λ x y first second value p q h g.
-    let a : before_t8 value ≡ of_type field x = elements_kept shape done at (of_type field x) (of_type field x) refl first value h in
-    let b : before_t8 value ≡ of_type field y = elements_kept shape done at (of_type field y) (of_type field y) refl second value g in
-    let kinds : Intra x ≡ Intra y = sym (ap (λ (m : Mb). m.kind) a) ∙ ap (λ (m : Mb). m.kind) b in
-    cc)
+    then_one_where (λ (b : Bool). Unit {0}) (skip_flag shape done at field) next (λ bins value h. tt) (skip_one shape done at field)
+    (λ b u. if_one b (Value (of_kind field Skip)) (layer shape done at field) (value_one (of_kind field Skip)) (layer_one shape done at field each_residual))
+    (λ x y first second value p q h g. sym (told x first value h) ∙ told y second value g)
+  where
+    next : Bool → BinString Mb
+    next skipped = cond skipped (Value (of_kind field Skip)) (layer shape done at field)
+
+    told : (b : Bool) (bins : List (Slot × Bool)) (value : Mb) → Spells (next b) bins value → is_skip value.kind ≡ b
+    told true bins value h = ap (λ (m : Mb). is_skip m.kind) (sym h.1)
+    told false bins value h = layer_sent shape done at field bins value h

@@ -106,6 +106,10 @@ same_luma shape done at quarter mb inside h sent =
     (λ block below. ap (λ (b : ℕ). not (is_i_pcm mb.kind) && (is_skip mb.kind || not (b == 1)))
     (ap (λ (p : Pattern). bit_at p.luma block) (sent_pattern mb mb.kind sent) ∙ sym (low_bit mb.pattern.luma quarter block below) ∙ ap (λ (p : Pattern). bit_at p.luma block) (sym (sent_pattern (with_quarters quarter mb) mb.kind sent))))
 
+-- the increment doesn't rest on transform_size_8x8_flag
+pub luma_any_size : (shape : SliceShape) (done : List Mb) (at quarter : ℕ) (mb : Mb) (t8 : Bool) → IsInPicture shape at → quarter < 4 → incs.luma shape done at mb.field mb quarter ≡ incs.luma shape done at mb.field (record mb { t8 = t8 }) quarter
+luma_any_size shape done at quarter mb t8 inside h = same_weighted false NoLuma shape done at mb.field mb (record mb { t8 = t8 }) (Luma8 quarter) inside h (λ block below. refl)
+
 pub writes_luma_bit : {S : Type 0} (step : S → Slot → Bool → S → Type 0) (shape : SliceShape) (done : List Mb) (at quarter : ℕ) (mb : Mb) (inc : ℕ) (bit : Bool) (s t : S) → IsInPicture shape at → quarter < 4 → sends_pattern mb.kind ≡ true
     → inc ≡ incs.luma shape done at mb.field mb quarter → bit ≡ (bit_at mb.pattern.luma quarter == 1) → Writes step (pattern_luma inc) bit s t → Writes step (luma_bit shape done at quarter (with_quarters quarter mb)) (with_quarters (quarter + 1) mb) s t
 unfolding luma_bit

@@ -15,6 +15,7 @@ use Rattle.h264_types.specs.Sizes.{HasSizes}
 use Rattle.h264_types.specs.Valid.{mode_bound, pattern_bound, IsWithin, IsQuarterCoded, IsLumaCoded, IsChromaCoded}
 use Rattle.h264_types.specs.Sent.{sends_t8_first, mode_count, sends_pattern}
 use Rattle.h264_types.specs.declared.macroblock.Mb.{Mb}
+use Rattle.h264_types.specs.declared.macroblock.MbKind.{MbKind}
 use Rattle.h264_types.specs.declared.slice_shape.SliceShape.{SliceShape}
 use Rattle.h264_types.proofs.Zeros.{zeros_within, zero_at}
 use Rattle.cabac_contexts.specs.Increments as incs
@@ -25,7 +26,7 @@ use Rattle.cabac_macroblock.specs.CodedBlockPattern.{with_luma_bit, luma_bit, lu
 use Rattle.cabac_macroblock.specs.Stages.{before_t8, before_modes, before_pattern, before_chroma_pattern}
 use Rattle.cabac_macroblock.proofs.Kept.{Keeps, keeps_value, keeps_put, keeps_put_of, keeps_when, keeps_upto, keeps_at}
 use Rattle.cabac_macroblock.proofs.Values.{mode_range, chroma_mode_range, chroma_range}
-use Rattle.cabac_macroblock.specs.MacroblockLayer.{of_type}
+use Rattle.cabac_macroblock.specs.MbType.{of_kind}
 use Rattle.cabac_macroblock.proofs.KeptElements.{luma_bits_kept, chroma_pattern_kept}
 use Rattle.cabac_macroblock.proofs.OneMacroblock.{IsLow, low_more}
 use Rattle.h264_types.proofs.KindLaws.{mode_count-most}
@@ -157,9 +158,9 @@ pub each_of : {A : Type 0} (Is : A → Type 0) (x : A) → Is x → (n : ℕ) �
 each_of Is x h zero = tt
 each_of Is x h (suc n) = (h, each_of Is x h n)
 
--- with the elements of its type alone but for those of intra prediction, the pattern and mb_qp_delta
-pub sized : (field : Bool) (number : ℕ) (m : Mb) → before_t8 m ≡ of_type field number → length m.modes ≡ 16 → HasSizes (without_levels m)
-sized field number m e size = record {
+-- an intra macroblock, with the pattern and mb_qp_delta
+pub sized : (field : Bool) (kind : MbKind) (m : Mb) → before_t8 m ≡ of_kind field kind → length m.modes ≡ 16 → HasSizes (without_levels m)
+sized field kind m e size = record {
   modes = size;
   subs = ap (λ (n : Mb). length n.subs) e;
   refs = subst (λ (l : List (List ℕ)). (length l ≡ 2) × AllByRecursion (λ list. length list ≡ 4) l) (sym (ap (λ (n : Mb). n.refs) e)) (refl, (refl, (refl, tt)));

@@ -7,7 +7,6 @@ use Rattle.std.proofs.lemmas.Int.{ints}
 use Rattle.binarisation.specs.BinString.{BinString, Value, NoValue, Next, ◌>>=◌}
 use Rattle.binarisation.specs.Codes.{up_to_two, ones, unary}
 use Rattle.binarisation.specs.Elements as syntax
-use Rattle.binarisation.specs.MacroblockType.{type_i, two_bits, intra_parts, intra}
 use Rattle.cabac_macroblock.specs.IntraPrediction.{any_mode}
 use Rattle.cabac_macroblock.proofs.Kept.{Keeps}
 
@@ -16,7 +15,7 @@ all_of test (Value x) = test x
 all_of test NoValue = true
 all_of test (Next slot rest) = all_of test (rest false) && all_of test (rest true)
 
-all_kept : {A : Type 0} (test : A → Bool) (string : BinString A) → all_of test string ≡ true → Keeps (λ x. test x ≡ true) string
+pub all_kept : {A : Type 0} (test : A → Bool) (string : BinString A) → all_of test string ≡ true → Keeps (λ x. test x ≡ true) string
 all_kept test (Value x) e bins value h = ap test (sym h.1) ∙ e
 all_kept test NoValue e bins value h = absurd h
 all_kept test (Next slot rest) e [] value h = absurd h
@@ -25,10 +24,6 @@ all_kept test (Next slot rest) e ((kind, true) ∷ bins) value h = all_kept test
 
 at_most : (n most : ℕ) → nat_le n most ≡ true → n ≤ most
 at_most n most e = grind (arith, nat_tests)
-
-pub type_range : (inc : ℕ) → Keeps (λ n. nat_le n 25 ≡ true) (type_i inc)
-unfolding ◌>>=◌ up_to_two two_bits intra_parts intra
-type_range inc = all_kept (λ n. nat_le n 25) (type_i inc) refl
 
 pub mode_range : Keeps (λ n. n ≤ 8) any_mode
 unfolding ◌>>=◌ any_mode

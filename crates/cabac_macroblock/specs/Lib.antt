@@ -1,4 +1,5 @@
 pub mod IntraPrediction
 pub mod CodedBlockPattern
 pub mod Stages
+pub mod MbType
 pub mod MacroblockLayer

@@ -1,5 +1,5 @@
 //! coded_block_pattern (ITU-T H.264, 7.3.5).
-ghost use Rattle.std.specs.Prelude.{◌≡◌, ◌+◌, ◌^◌, ◌<◌, ◌≤◌, option_map, false, true, OnOk, OnSome, OnErr, List};
+ghost use Rattle.std.specs.Prelude.{◌≡◌, ◌+◌, ◌^◌, ◌<◌, ◌≤◌, Bool, option_map, false, true, OnOk, OnSome, OnErr, List};
 ghost use Rattle.binarisation.specs.BinString.{Reads, Writes};
 ghost use Rattle.h264_types.specs.Slice.{IsInPicture};
 ghost use Rattle.h264_types.specs.Sent.{sends_pattern};
@@ -117,7 +117,7 @@ fn write_luma<S: BinSink>(
     requires picture { IsInPicture shape.now at }
     requires sent { sends_pattern mb.now.kind ≡ true }
     requires luma { mb.now.pattern.luma ≤ 15 }
-    ensures writes { (mbs : List Mb) → IsReadAt shape.now done.now mbs at → OnOk result (Writes S.step (pattern.luma_bits shape.now mbs at (before_pattern mb.now)) (before_chroma_pattern mb.now) s.old s.new) }
+    ensures writes { (mbs : List Mb) (t8 : Bool) → IsReadAt shape.now done.now mbs at → OnOk result (Writes S.step (pattern.luma_bits shape.now mbs at (record (before_pattern mb.now) { t8 = t8 })) (record (before_chroma_pattern mb.now) { t8 = t8 }) s.old s.new) }
     ensures going { OnOk result (S.over s.new ≡ false) }
     ensures err { OnErr result (S.over s.new ≡ true) }
 {
@@ -140,7 +140,7 @@ fn write_chroma<S: BinSink>(
     requires going { S.over s.old ≡ false }
     requires picture { IsInPicture shape.now at }
     requires chroma { mb.now.pattern.chroma ≤ 2 }
-    ensures writes { (mbs : List Mb) → IsReadAt shape.now done.now mbs at → OnOk result (Writes S.step (pattern.chroma_pattern shape.now mbs at (before_chroma_pattern mb.now)) (before_qp_delta mb.now) s.old s.new) }
+    ensures writes { (mbs : List Mb) (t8 : Bool) → IsReadAt shape.now done.now mbs at → OnOk result (Writes S.step (pattern.chroma_pattern shape.now mbs at (record (before_chroma_pattern mb.now) { t8 = t8 })) (record (before_qp_delta mb.now) { t8 = t8 }) s.old s.new) }
     ensures going { OnOk result (S.over s.new ≡ false) }
     ensures err { OnErr result (S.over s.new ≡ true) }
 {
@@ -149,7 +149,8 @@ fn write_chroma<S: BinSink>(
     write_pattern_chroma(s, first, second, mb.pattern.chroma)
 }
 
-/// Writes coded_block_pattern, where the type doesn't name it.
+/// Writes coded_block_pattern, where the type doesn't name it. Whether transform_size_8x8_flag stands before it, as `t8`, or
+/// is still to come is one.
 pub fn write_pattern<S: BinSink>(
     s: &mut S,
     shape: &SliceShape,
@@ -160,7 +161,7 @@ pub fn write_pattern<S: BinSink>(
     requires going { S.over s.old ≡ false }
     requires picture { IsInPicture shape.now at }
     requires pattern { IsPattern mb.now }
-    ensures writes { (mbs : List Mb) → IsReadAt shape.now done.now mbs at → OnOk result (Writes S.step (pattern.pattern shape.now mbs at (before_pattern mb.now)) (before_qp_delta mb.now) s.old s.new) }
+    ensures writes { (mbs : List Mb) (t8 : Bool) → IsReadAt shape.now done.now mbs at → OnOk result (Writes S.step (pattern.pattern shape.now mbs at (record (before_pattern mb.now) { t8 = t8 })) (record (before_qp_delta mb.now) { t8 = t8 }) s.old s.new) }
     ensures going { OnOk result (S.over s.new ≡ false) }
     ensures err { OnErr result (S.over s.new ≡ true) }
 {

@@ -6,8 +6,8 @@ pub returns-clause-valid : goal.returns-clause-valid
 returns-clause-valid c = λ shape done at field bins mb h other mbaff.
     macroblock_valid shape done at field bins mb (λ m levels value sizes apart spelled. let is = spelled_is_valid shape done at m levels value sizes apart spelled in (is.0, is.1)) h other mbaff
 
-pub returns-clause-intra : goal.returns-clause-intra
-returns-clause-intra c = macroblock_typed
+pub returns-clause-typed : goal.returns-clause-typed
+returns-clause-typed c = macroblock_typed
 
 pub returns-clause-pcm : goal.returns-clause-pcm
 returns-clause-pcm c = macroblock_pcm

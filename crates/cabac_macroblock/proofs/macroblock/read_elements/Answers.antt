@@ -1,40 +1,14 @@
-use Rattle.std.proofs.Common.{ap, sym, refl, ◌∙◌}
-use Rattle.std.specs.Option.{option_map}
-use Rattle.binarisation.specs.BinString.{◌>>=◌}
-use Rattle.binarisation.proofs.Strings.{reads_then, reads_none}
-use Rattle.cabac_macroblock.specs.IntraPrediction.{intra_prediction}
-use Rattle.cabac_macroblock.specs.CodedBlockPattern.{pattern}
-use Rattle.cabac_macroblock.specs.MacroblockLayer.{coding}
-use Rattle.cabac_macroblock.proofs.Puts.{unread}
-use Rattle.cabac_macroblock.proofs.CodingSteps.{elements_sent, elements_unsent}
+use Rattle.std.proofs.Common.{sym, refl, ◌∙◌}
+use Rattle.cabac_macroblock.proofs.CodingSteps.{elements_pcm, elements_intra, elements_inter}
 use Rattle.cabac_macroblock.proofs.macroblock.read_elements.Goals as goal
 
 pub returns-then-is_i_pcm-clause-reads : goal.returns-then-is_i_pcm-clause-reads
-returns-then-is_i_pcm-clause-reads g c mbs stands = rw (elements_unsent c.args.shape.now mbs c.args.at c.args.mb.now (sym c.is_i_pcm.ensures ∙ c.if-is_i_pcm.true)) (refl, refl)
+returns-then-is_i_pcm-clause-reads g c mbs stands = rw (elements_pcm c.args.shape.now mbs c.args.at c.args.mb.now (sym c.is_i_pcm.ensures ∙ c.if-is_i_pcm.true)) (refl, refl)
 
-pub returns-in_err-read_prediction-clause-reads : goal.returns-in_err-read_prediction-clause-reads
-returns-in_err-read_prediction-clause-reads g c mbs stands =
-    let shape = c.args.shape.now in
-    let step = g.S.BinSource.step in
-    unread _ _ _ _ _ (ap (option_map _) c.from_residual.ensures)
-    (rw (elements_sent shape mbs c.args.at c.args.mb.now (sym c.is_i_pcm.ensures ∙ c.if-is_i_pcm.false))
-    (reads_none step (intra_prediction shape mbs c.args.at c.args.mb.now >>= pattern shape mbs c.args.at) (coding shape mbs c.args.at) _ _
-    (reads_none step (intra_prediction shape mbs c.args.at c.args.mb.now) (pattern shape mbs c.args.at) _ _ (c.in_err-read_prediction.ensures.reads mbs stands))))
+pub returns-then-is_intra-clause-reads : goal.returns-then-is_intra-clause-reads
+returns-then-is_intra-clause-reads g c mbs stands =
+    rw (elements_intra c.args.shape.now mbs c.args.at c.args.mb.now (sym c.is_i_pcm.ensures ∙ c.if-is_i_pcm.false) (sym c.is_intra.ensures ∙ c.if-is_intra.true)) (c.read_intra_elements.ensures.reads mbs stands)
 
-pub returns-in_err-read_pattern-clause-reads : goal.returns-in_err-read_pattern-clause-reads
-returns-in_err-read_pattern-clause-reads g c mbs stands =
-    let shape = c.args.shape.now in
-    let step = g.S.BinSource.step in
-    unread _ _ _ _ _ (ap (option_map _) c.from_residual-in_err-read_pattern.ensures)
-    (rw (elements_sent shape mbs c.args.at c.args.mb.now (sym c.is_i_pcm.ensures ∙ c.if-is_i_pcm.false))
-    (reads_none step (intra_prediction shape mbs c.args.at c.args.mb.now >>= pattern shape mbs c.args.at) (coding shape mbs c.args.at) _ _
-    (reads_then step (intra_prediction shape mbs c.args.at c.args.mb.now) (pattern shape mbs c.args.at) c.read_prediction.new.mb _ _ _ _ (c.in_ok-read_prediction.ensures.reads mbs stands) (c.in_err-read_pattern.ensures.reads mbs stands))))
-
-pub returns-clause-reads : goal.returns-clause-reads
-returns-clause-reads g c mbs stands =
-    let shape = c.args.shape.now in
-    let step = g.S.BinSource.step in
-    rw (elements_sent shape mbs c.args.at c.args.mb.now (sym c.is_i_pcm.ensures ∙ c.if-is_i_pcm.false))
-    (reads_then step (intra_prediction shape mbs c.args.at c.args.mb.now >>= pattern shape mbs c.args.at) (coding shape mbs c.args.at) c.read_pattern.new.mb _ _ _ _
-    (reads_then step (intra_prediction shape mbs c.args.at c.args.mb.now) (pattern shape mbs c.args.at) c.read_prediction.new.mb _ _ _ _ (c.in_ok-read_prediction.ensures.reads mbs stands) (c.in_ok-read_pattern.ensures.reads mbs stands))
-    (c.read_coding.ensures.reads mbs stands))
+pub returns-else-is_intra-clause-reads : goal.returns-else-is_intra-clause-reads
+returns-else-is_intra-clause-reads g c mbs stands =
+    rw (elements_inter c.args.shape.now mbs c.args.at c.args.mb.now (sym c.is_i_pcm.ensures ∙ c.if-is_i_pcm.false) (sym c.is_intra.ensures ∙ c.if-is_intra.false)) (c.read_inter_elements.ensures.reads mbs stands)

@@ -1,4 +1,4 @@
-use Rattle.std.proofs.Common.{◌≡◌, ◌-◌, false, List}
+use Rattle.std.proofs.Common.{◌≡◌, ◌-◌, Bool, false, List}
 use Rattle.cabac_contexts.specs.Terms.{IsReadAt}
 use Rattle.h264_types.specs.declared.macroblock.Mb.{Mb}
 use Rattle.binarisation.proofs.Strings.{Completes}
@@ -11,5 +11,5 @@ use Rattle.cabac_macroblock.proofs.pattern.write_luma.Given as goal
 abbrev pub invariant-loop-quarter : goal.invariant-loop-quarter
 invariant-loop-quarter g l = record {
   going : g.S.BinSink.over l.s ≡ false;
-  writes : (mbs : List Mb) → IsReadAt l.shape l.done mbs l.at → Completes g.S.BinSink.step (luma_bits l.shape mbs l.at (before_pattern l.mb)) l.fn.s (each (4 - l.quarter) (luma_bit l.shape mbs l.at) l.quarter (with_quarters l.quarter l.mb)) l.s;
+  writes : (mbs : List Mb) (t8 : Bool) → IsReadAt l.shape l.done mbs l.at → Completes g.S.BinSink.step (luma_bits l.shape mbs l.at (before_pattern (record l.mb { t8 = t8 }))) l.fn.s (each (4 - l.quarter) (luma_bit l.shape mbs l.at) l.quarter (with_quarters l.quarter (record l.mb { t8 = t8 }))) l.s;
 }
