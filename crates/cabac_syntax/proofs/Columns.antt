@@ -8,9 +8,10 @@ use Rattle.cabac_syntax.specs.SliceData.{HasData}
 
 column_data : (shape : SliceShape) (column : ℕ) (mbs : List Mb) → column ≤ 3 → HasData shape mbs → HasData (record shape { column = column }) mbs
 column_data shape column mbs h has = record {
-  built = record { mbaff = has.built.mbaff; kind = has.built.kind };
+  built = record { mbaff = has.built.mbaff };
   slice = column_slice shape column mbs h has.slice;
   residuals = has.residuals;
+  ref0 = has.ref0;
 }
 
 pub lists_of_both : (first second : SliceShape) (mbs : List Mb) → without_column first ≡ without_column second → second.column ≤ 3 → HasData first mbs → HasData second mbs

@@ -7,13 +7,14 @@ use Rattle.bit_texts.specs.Bits.{bits_of}
 use Rattle.binarisation.specs.BinString.{Spells}
 use Rattle.cabac_contexts.specs.States.{state_of}
 use Rattle.cabac_engine.specs.Bins.{at_end}
-use Rattle.cabac_macroblock.specs.MacroblockLayer.{without_samples, of_type}
-use Rattle.cabac_macroblock.proofs.ValidMacroblock.{macroblock_valid, macroblock_pcm, pcm_valid}
+use Rattle.cabac_macroblock.specs.MacroblockLayer.{without_samples}
+use Rattle.cabac_macroblock.specs.MbType.{of_kind}
+use Rattle.cabac_macroblock.proofs.ValidMacroblock.{macroblock_pcm, pcm_valid}
 use Rattle.cabac_mb_residual.specs.Levels.{IsResidual}
-use Rattle.cabac_mb_residual.proofs.Validity.{spelled_is_valid}
 use Rattle.h264_types.specs.Kind.{is_i_pcm}
 use Rattle.h264_types.specs.Valid.{IsMacroblock}
 use Rattle.h264_types.specs.declared.macroblock.Mb.{Mb}
+use Rattle.h264_types.specs.declared.macroblock.MbKind.TheVariants.{Intra}
 use Rattle.h264_types.specs.declared.slice_shape.SliceShape.{SliceShape}
 use Rattle.pcm_samples.specs.Alignment.{alignment}
 use Rattle.pcm_samples.specs.Samples.{AreSamples}
@@ -24,24 +25,16 @@ use Rattle.cabac_syntax.proofs.CodeParts.{codes_bins, bins_codes}
 use Rattle.cabac_syntax.proofs.CodesDecided.{IsCodeBefore, one_code, code_before_decided, last_decided}
 use Rattle.cabac_syntax.proofs.Decisions.{Decided, same_decided, both_decided, either_decided, one_decided, same_pair, most_decided, front_decided, bytes_decided, spelled_decided}
 use Rattle.cabac_syntax.proofs.EndLaws.{with_samples, one_sampled, samples_in}
-use Rattle.cabac_syntax.proofs.MacroblockLaws.{bins_behind, none_sampled, no_samples}
+use Rattle.cabac_syntax.proofs.MacroblockLaws.{bins_behind, IsValid, spelled_valid, none_sampled, no_samples}
 use Rattle.cabac_syntax.proofs.Samples.{same_samples}
 
 -- ---- what is spelled is valid
 
-abbrev pub IsValid : SliceShape → Mb → Type 0
-IsValid shape mb = IsMacroblock shape mb × IsResidual mb
-
-spelled_valid : (shape : SliceShape) (done : List Mb) (bins : List Bin) (read : Mb) → Spells (bins_behind shape done) bins read → is_i_pcm read.kind ≡ false → IsValid shape read
-spelled_valid shape done bins read spelled other =
-    macroblock_valid shape done (length done) false bins read
-    (λ m levels value sizes apart spelled. let is = spelled_is_valid shape done (length done) m levels value sizes apart spelled in (is.0, is.1)) spelled other (λ h. absurd cc)
-
 spelled_pcm : (shape : SliceShape) (done : List Mb) (bins : List Bin) (read : Mb) → Spells (bins_behind shape done) bins read → is_i_pcm read.kind ≡ true
     → (without_samples read ≡ read) × ((xs : List ℕ) → AreSamples xs → IsValid shape (with_samples read xs))
 spelled_pcm shape done bins read spelled pcm =
-    let is : read ≡ of_type false 25 = macroblock_pcm shape done (length done) false bins read spelled pcm in
-    (ap without_samples is ∙ sym is, λ xs are. subst (λ (m : Mb). IsValid shape (with_samples m xs)) (sym is) (pcm_valid shape xs are.count are.bytes))
+    let is : read ≡ of_kind false (Intra 25) = macroblock_pcm shape done (length done) false bins read spelled pcm in
+    (ap without_samples is ∙ sym is, λ xs are. let whole = pcm_valid shape xs are.count are.bytes in subst (λ (m : Mb). IsValid shape (with_samples m xs)) (sym is) (whole.0, whole.1, refl))
 
 -- ---- samples
 
@@ -282,6 +275,7 @@ module _ (start : ℕ → ℕ × Bool) (shape : SliceShape) where
             pairs = λ mbaff. absurd (let clash : true ≡ false = sym mbaff ∙ built.built.mbaff in cc);
           };
           residuals = All-weaker (IsValid shape) IsResidual (λ m h. h.1) (mb ∷ mbs) all;
+          ref0 = All-weaker (IsValid shape) (λ (m : Mb). m.ref0 ≡ false) (λ m h. h.2) (mb ∷ mbs) all;
         },
         (pieces, body, pieces_are, e, codes),
       )
@@ -290,7 +284,7 @@ module _ (start : ℕ → ℕ × Bool) (shape : SliceShape) where
   list_whole pos bits ([], has, are) = absurd (omega (arith, has.slice.some))
   list_whole pos bits (mb ∷ mbs, has, (pieces, body, pieces_are, e, codes)) =
       let inside = has.slice.inside in
-      let valid : All (IsValid shape) (mb ∷ mbs) = λ k m at. (has.slice.macroblocks k m at, has.residuals k m at) in (
+      let valid : All (IsValid shape) (mb ∷ mbs) = λ k m at. (has.slice.macroblocks k m at, has.residuals k m at, has.ref0 k m at) in (
         omega (arith, inside),
         (body, e, (mb, mbs, pieces, All-head (IsValid shape) mb mbs valid, omega (arith, inside), All-tail (IsValid shape) mb mbs valid, pieces_are, codes)),
       )

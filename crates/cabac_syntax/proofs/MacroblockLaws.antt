@@ -6,9 +6,10 @@ use Rattle.cabac_engine.specs.Bins.{Promises}
 use Rattle.binarisation.specs.BinString.{BinString, Spells, Reads, HasOneString, WasGiven}
 use Rattle.binarisation.proofs.Spelling.{reads_gave, reads_promised}
 use Rattle.cabac_contexts.specs.Coders.{InCoding, GivesBin}
-use Rattle.cabac_macroblock.specs.MacroblockLayer.{macroblock_i, without_samples, of_type}
+use Rattle.cabac_macroblock.specs.MacroblockLayer.{macroblock, without_samples}
+use Rattle.cabac_macroblock.specs.MbType.{of_kind}
 use Rattle.cabac_macroblock.proofs.OneMacroblock.{macroblock_one}
-use Rattle.cabac_macroblock.proofs.ValidMacroblock.{macroblock_valid, macroblock_pcm}
+use Rattle.cabac_macroblock.proofs.ValidMacroblock.{macroblock_valid, macroblock_typed, macroblock_pcm}
 use Rattle.cabac_mb_residual.specs.Levels.{IsResidual, without_levels}
 use Rattle.cabac_mb_residual.proofs.OneString.{residual_one}
 use Rattle.cabac_mb_residual.proofs.Spelled.{sized-none}
@@ -17,6 +18,7 @@ use Rattle.h264_types.proofs.Zeros.{all_same}
 use Rattle.h264_types.specs.Kind.{is_i_pcm}
 use Rattle.h264_types.specs.Valid.{IsMacroblock, sample_bound}
 use Rattle.h264_types.specs.declared.macroblock.Mb.{Mb}
+use Rattle.h264_types.specs.declared.macroblock.MbKind.TheVariants.{Intra}
 use Rattle.h264_types.specs.declared.slice_shape.SliceShape.{SliceShape}
 use Rattle.slice_data.specs.Reading.{NoList}
 use Rattle.cabac_syntax.specs.SliceData.{Bin, Piece, coded, sampled, HasData, AreDataFrom, ArePieces, Begins, samples_of}
@@ -26,7 +28,7 @@ use Rattle.cabac_syntax.proofs.KnowsLaws.{know_step, know_same, know_none}
 
 -- the bins of the macroblock behind `done`
 abbrev pub bins_behind : SliceShape → List Mb → BinString Mb
-bins_behind shape done = macroblock_i shape done (length done) false
+bins_behind shape done = macroblock shape done (length done) false
 
 pub one_string : (shape : SliceShape) (done : List Mb) → HasOneString (bins_behind shape done)
 one_string shape done = macroblock_one shape done (length done) false (λ m. residual_one shape done (length done) (without_levels m) (sized-none m))
@@ -67,13 +69,23 @@ know_behind start shape pos all done read d e k reads =
 
 -- ---- what was read is a macroblock of the slice
 
-pub read_valid : (shape : SliceShape) (done : List Mb) (read : Mb) (d e : InCoding) → Reads GivesBin (bins_behind shape done) (Some read) d e → is_i_pcm read.kind ≡ false → IsMacroblock shape read × IsResidual read
+-- of the slice, and with bins
+abbrev pub IsValid : SliceShape → Mb → Type 0
+IsValid shape mb = IsMacroblock shape mb × IsResidual mb × (mb.ref0 ≡ false)
+
+pub spelled_valid : (shape : SliceShape) (done : List Mb) (bins : List Bin) (read : Mb) → Spells (bins_behind shape done) bins read → is_i_pcm read.kind ≡ false → IsValid shape read
+spelled_valid shape done bins read spelled other =
+    let is =
+    macroblock_valid shape done (length done) false bins read
+    (λ m levels value sizes apart spelled. let is = spelled_is_valid shape done (length done) m levels value sizes apart spelled in (is.0, is.1)) spelled other (λ h. absurd cc) in
+    (is.0, is.1, (macroblock_typed shape done (length done) false bins read spelled).0)
+
+pub read_valid : (shape : SliceShape) (done : List Mb) (read : Mb) (d e : InCoding) → Reads GivesBin (bins_behind shape done) (Some read) d e → is_i_pcm read.kind ≡ false → IsValid shape read
 read_valid shape done read d e reads other =
     let gave = reads_gave GivesBin (bins_behind shape done) read d e reads in
-    macroblock_valid shape done (length done) false gave.0 read
-    (λ m levels value sizes apart spelled. let is = spelled_is_valid shape done (length done) m levels value sizes apart spelled in (is.0, is.1)) gave.1 other (λ h. absurd cc)
+    spelled_valid shape done gave.0 read gave.1 other
 
-pub read_pcm : (shape : SliceShape) (done : List Mb) (read : Mb) (d e : InCoding) → Reads GivesBin (bins_behind shape done) (Some read) d e → is_i_pcm read.kind ≡ true → read ≡ of_type false 25
+pub read_pcm : (shape : SliceShape) (done : List Mb) (read : Mb) (d e : InCoding) → Reads GivesBin (bins_behind shape done) (Some read) d e → is_i_pcm read.kind ≡ true → read ≡ of_kind false (Intra 25)
 read_pcm shape done read d e reads pcm =
     let gave = reads_gave GivesBin (bins_behind shape done) read d e reads in
     macroblock_pcm shape done (length done) false gave.0 read gave.1 pcm

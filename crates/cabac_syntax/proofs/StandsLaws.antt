@@ -39,8 +39,8 @@ module _ (kept shape : SliceShape) (rows : LastRows Mb) (done : List Mb) (Place 
       by (mb ∷ list) h = h (omega arith)
 
   -- a macroblock more
-  pub has_more : (at : ℕ) (mb : Mb) → Stands kept rows shape done Place → HasRoom at → IsMacroblock shape mb → IsResidual mb → HasData shape (done ++ mb ∷ [])
-  has_more at mb s room is residual =
+  pub has_more : (at : ℕ) (mb : Mb) → Stands kept rows shape done Place → HasRoom at → IsMacroblock shape mb → IsResidual mb → mb.ref0 ≡ false → HasData shape (done ++ mb ∷ [])
+  has_more at mb s room is residual plain =
       let size = length-append done (mb ∷ []) in
       let inside : shape.first + length done < shape.width * shape.height = subst (λ (x : SliceShape). x.first + length done < x.width * x.height) s.of (subst (λ (n : ℕ). kept.first + n < kept.width * kept.height) s.rows_are.counted room.1) in
       record {
@@ -53,6 +53,7 @@ module _ (kept shape : SliceShape) (rows : LastRows Mb) (done : List Mb) (Place 
           pairs = λ mbaff. absurd (let clash : true ≡ false = sym mbaff ∙ s.built.built.mbaff in cc);
         };
         residuals = All-push IsResidual done mb (all_done IsResidual (λ some. (s.given some).residuals)) residual;
+        ref0 = All-push (λ (m : Mb). m.ref0 ≡ false) done mb (all_done (λ (m : Mb). m.ref0 ≡ false) (λ some. (s.given some).ref0)) plain;
       }
 
   -- at another place
@@ -60,8 +61,8 @@ module _ (kept shape : SliceShape) (rows : LastRows Mb) (done : List Mb) (Place 
   stands_at New s new = record { of = s.of; built = s.built; rows_are = s.rows_are; given = s.given; place = new }
 
   -- behind a macroblock more
-  pub stands_more : (New : Type 0) (at : ℕ) (mb : Mb) (new : LastRows Mb) → Stands kept rows shape done Place → HasRoom at → IsMacroblock shape mb → IsResidual mb
+  pub stands_more : (New : Type 0) (at : ℕ) (mb : Mb) (new : LastRows Mb) → Stands kept rows shape done Place → HasRoom at → IsMacroblock shape mb → IsResidual mb → mb.ref0 ≡ false
       → ((other : SliceShape) (mbs : List Mb) → AreRows (λ m. m) other rows mbs → AreRows (λ m. m) other new (mbs ++ mb ∷ [])) → New → Stands kept new shape (done ++ mb ∷ []) New
-  stands_more New at mb new s room is residual pushed place =
-      let has = has_more at mb s room is residual in
+  stands_more New at mb new s room is residual plain pushed place =
+      let has = has_more at mb s room is residual plain in
       record { of = s.of; built = s.built; rows_are = pushed shape done s.rows_are; given = λ _. has; place = place }

@@ -1,4 +1,4 @@
--- The data of I slices outside MBAFF in CABAC (ITU-T H.264, 7.3.4, 7.3.5, 9.3.1.2), and the lists of macroblocks that have data.
+-- The data of slices outside MBAFF in CABAC (ITU-T H.264, 7.3.4, 7.3.5, 9.3.1.2), and the lists of macroblocks that have data.
 use Rattle.std.specs.Prelude.{◌≡◌, ℕ, ◌*◌, ◌-◌, ◌%◌, Bool, true, false, List, [], ◌∷◌, ◌++◌, length, map, replicate, if◌then◌else◌, All}
 use Rattle.bit_texts.specs.Bits.{bits_of, EndsInOne}
 use Rattle.binarisation.specs.BinString.{Spells}
@@ -6,31 +6,31 @@ use Rattle.cabac_contexts.specs.Coders.{SegmentBits}
 use Rattle.cabac_contexts.specs.Initial.{starting_states}
 use Rattle.cabac_contexts.specs.States.{state_of}
 use Rattle.cabac_engine.specs.Bins.{Slot, at_end}
-use Rattle.cabac_macroblock.specs.MacroblockLayer.{macroblock_i, without_samples}
+use Rattle.cabac_macroblock.specs.MacroblockLayer.{macroblock, without_samples}
 use Rattle.cabac_mb_residual.specs.Levels.{IsResidual}
 use Rattle.pcm_samples.specs.Alignment.{alignment}
 use Rattle.h264_types.specs.Kind.{is_i_pcm}
 use Rattle.h264_types.specs.SliceShape.{IsSliceShape}
 use Rattle.h264_types.specs.Valid.{IsSlice}
 use Rattle.h264_types.specs.declared.macroblock.Mb.{Mb}
-use Rattle.h264_types.specs.declared.slice_shape.SliceKind.TheVariants.{I}
 use Rattle.h264_types.specs.declared.slice_shape.SliceShape.{SliceShape}
 use Rattle.init_table.specs.declared.table.InitTable.{InitTable}
 
--- the slices that are read and written: I slices outside MBAFF
+-- the slices that are read and written: those outside MBAFF
 pub record IsBuilt (shape : SliceShape) : Type 0 where
   pub mbaff : shape.mbaff ≡ false
-  pub kind : shape.kind ≡ I
 
 pub record IsBuiltShape (shape : SliceShape) : Type 0 where
   pub is_shape : IsSliceShape shape
   pub built : IsBuilt shape
 
--- The lists of macroblocks that have data. There are no bins for 64 levels of the 8x8 transform that are all 0.
+-- The lists of macroblocks that have data. There are no bins for the type P_8x8ref0, nor for 64 levels of the 8x8 transform that
+-- are all 0.
 pub record HasData (shape : SliceShape) (mbs : List Mb) : Type 0 where
   pub built : IsBuilt shape
   pub slice : IsSlice shape mbs
   pub residuals : All IsResidual mbs
+  pub ref0 : All (λ mb. mb.ref0 ≡ false) mbs
 
 -- ---- what is coded, in its order
 
@@ -53,7 +53,7 @@ flag_behind (mb ∷ mbs) = coded (at_end, false) ∷ []
 -- the pieces begin with those of the macroblock behind `before`, on which its bins rest: its bins, and its samples
 abbrev pub Begins : SliceShape → List Mb → Mb → List Piece → List Piece → Type 0
 Begins shape before mb rest pieces =
-    (bins : List Bin) × Spells (macroblock_i shape before (length before) false) bins (without_samples mb) × (pieces ≡ map coded bins ++ (samples_of mb ++ rest))
+    (bins : List Bin) × Spells (macroblock shape before (length before) false) bins (without_samples mb) × (pieces ≡ map coded bins ++ (samples_of mb ++ rest))
 
 -- The pieces of macroblocks behind `before`, to the end of the slice: end_of_slice_flag stands behind each macroblock, and is 1
 -- behind the last one.

@@ -1,5 +1,4 @@
-//! The data of I slices in CABAC (ITU-T H.264, 7.3.4 and 9.3), read and written one macroblock at a
-//! time, outside MBAFF. specs/SliceData has the data of a list of macroblocks, specs/Standing and specs/Written what a reader
+//! The data of slices in CABAC (ITU-T H.264, 7.3.4 and 9.3), read and written one macroblock at a time, outside MBAFF. specs/SliceData has the data of a list of macroblocks, specs/Standing and specs/Written what a reader
 //! and a writer stand for. `laws` has what the layers above rest on.
 #![tactic(auto)]
 

@@ -5,21 +5,23 @@ use Rattle.h264_types.specs.Valid.{IsMacroblock}
 use Rattle.cabac_syntax.specs.SliceData.{first_states}
 use Rattle.cabac_syntax.specs.Written.{WritesIn}
 use Rattle.cabac_syntax.proofs.StandsLaws.{stands_more}
-use Rattle.cabac_syntax.proofs.PutLaws.{put_valid, put_room, put_intra, put_residual, put_bins}
+use Rattle.cabac_syntax.proofs.PutLaws.{put_valid, put_room, put_shape, put_plain, put_residual, put_bins}
 use Rattle.cabac_syntax.proofs.WroteLaws.{wrote_ended}
 use Rattle.cabac_syntax.proofs.writer.CabacWriter.put_next.Goals as goal
 
 pub write_macroblock-requires-clause-valid : goal.write_macroblock-requires-clause-valid
 write_macroblock-requires-clause-valid g c = let r = c.requires.1 in put_valid _ r.1 _ r.3 _ c.args.mb.now r.4 r.5
 
-pub write_macroblock-requires-clause-intra : goal.write_macroblock-requires-clause-intra
-write_macroblock-requires-clause-intra g c = let r = c.requires.1 in put_intra _ r.1 _ r.3 _ c.args.mb.now r.4 (put_valid _ r.1 _ r.3 _ c.args.mb.now r.4 r.5)
+pub write_macroblock-requires-clause-shape : goal.write_macroblock-requires-clause-shape
+write_macroblock-requires-clause-shape g c = let r = c.requires.1 in put_shape _ r.1 _ r.3 _ r.4
+
+pub write_macroblock-requires-clause-ref0 : goal.write_macroblock-requires-clause-ref0
+write_macroblock-requires-clause-ref0 g c = put_plain c.args.mb.now c.requires.0
 
 pub write_macroblock-requires-clause-residual : goal.write_macroblock-requires-clause-residual
 write_macroblock-requires-clause-residual g c =
     let r = c.requires.1 in
-    let is = put_valid _ r.1 _ r.3 _ c.args.mb.now r.4 r.5 in
-    put_residual _ c.args.mb.now c.requires.0 is (put_intra _ r.1 _ r.3 _ c.args.mb.now r.4 is)
+    put_residual _ c.args.mb.now c.requires.0 (put_valid _ r.1 _ r.3 _ c.args.mb.now r.4 r.5)
 
 pub write_behind-requires-clause-ended : goal.write_behind-requires-clause-ended
 write_behind-requires-clause-ended g c = λ pcm.
@@ -41,6 +43,6 @@ returns g c = λ init shape before done s.
     let is = put_valid _ r.1 _ r.3 _ c.args.mb.now r.4 r.5 in
     let room = put_room _ r.1 _ r.3 _ c.args.mb.now r.4 r.5 in
     let put = put_bins start _ shape _ before done _ c.count-at.result c.args.mb.now c.write_flag.new.coder c.write_macroblock.new.s s (c.count-at.ensures, room) is c.in_ok-write_macroblock.ensures.writes w in
-    let residual = put_residual _ c.args.mb.now c.requires.0 is (put_intra _ r.1 _ r.3 _ c.args.mb.now r.4 is) in
-    stands_more _ shape _ done _ _ c.count-at.result c.args.mb.now c.push.new.self s (c.count-at.ensures, room) (subst (λ x. IsMacroblock x c.args.mb.now) s.of is) residual c.push.ensures.rows
+    let residual = put_residual _ c.args.mb.now c.requires.0 is in
+    stands_more _ shape _ done _ _ c.count-at.result c.args.mb.now c.push.new.self s (c.count-at.ensures, room) (subst (λ x. IsMacroblock x c.args.mb.now) s.of is) residual (put_plain c.args.mb.now c.requires.0) c.push.ensures.rows
     (c.in_ok-next.ensures.wrote start shape before done is.sizes.pcm put)
