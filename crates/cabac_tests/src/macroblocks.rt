@@ -1,4 +1,4 @@
-//! Macroblocks of I slices in CABAC (7.3.5): their bins with all contexts, and their bytes.
+//! Macroblocks in CABAC (7.3.5): their bins with all contexts, and their bytes.
 ghost use Rattle.std.specs.Prelude.{◌≡◌, ◌*◌, ◌<◌, ◌≤◌, ℕ, false, true, pos, length, replicate, IfOk, IsTrue};
 ghost use Rattle.h264_types.specs.Macroblock.{quarter_of};
 ghost use Rattle.h264_types.specs.SliceShape.{IsSliceShape};
@@ -17,7 +17,7 @@ use std::alloc::{AllocError as Memory, Global};
 use std::test::Fail;
 
 /// A slice of one row, in High profile.
-fn row(width: u32) -> SliceShape
+fn row(kind: SliceKind, width: u32) -> SliceShape
     requires { (1 ≤ width) × (width ≤ 2) }
     ensures shape { IsSliceShape result }
     ensures width { result.width ≡ width }
@@ -25,13 +25,13 @@ fn row(width: u32) -> SliceShape
     ensures first { result.first ≡ 0 }
 {
     SliceShape {
-        kind: SliceKind::I,
+        kind,
         width,
         height: 1,
         first: 0,
         mbaff: false,
         field_pic: false,
-        refs: [0, 0],
+        refs: [1, 1],
         t8_mode: true,
         direct8: true,
         profile: 100,
@@ -61,7 +61,7 @@ fn put<S: BinSink>(
 {
     if valid(shape, mbs) && (at as usize) < mbs.len() {
         let mb = &mbs[at as usize];
-        if mb.kind.is_intra() && has_quarters(mb) {
+        if !mb.ref0 && has_quarters(mb) {
             let done = rows_of(alloc, shape, &mbs[..at as usize])?;
             write_macroblock(s, shape, &done, at, mb)?;
             return Ok(!mb.kind.is_i_pcm());
@@ -115,6 +115,7 @@ fn blocks() -> Mb {
 /// The last macroblock of a slice has so many bins, of which the first and the last are these, and it comes back from them.
 fn has_bins(
     alloc: Global,
+    kind: SliceKind,
     mbs: &[Mb],
     count: usize,
     front: &[(Kind, bool)],
@@ -122,7 +123,7 @@ fn has_bins(
 ) -> Result<bool, Memory>
     requires { (1 ≤ length mbs.now) × (length mbs.now ≤ 2) }
 {
-    let shape = row(2);
+    let shape = row(kind, 2);
     let at = mbs.len() as u32 - 1;
     let mut bins = Bins::new(alloc);
     put(alloc, &mut bins, &shape, mbs, at)?;
@@ -167,10 +168,167 @@ static PREDICTED_BACK: [(Kind, bool); 7] = [
 #[test]
 fn bins_of_macroblocks(rt: HostRuntime) -> Result<(), Fail> {
     let samples = Mb::without_elements(MbKind::Intra(25));
-    assert!(rt; has_bins(rt.alloc(), &[flat()], 9, &FLAT_FRONT, &FLAT_BACK)?);
-    assert!(rt; has_bins(rt.alloc(), &[samples], 2, &SAMPLES, &SAMPLES)?);
+    assert!(rt;
+        has_bins(
+            rt.alloc(),
+            SliceKind::I,
+            &[flat()],
+            9,
+            &FLAT_FRONT,
+            &FLAT_BACK
+        )?
+    );
+    assert!(rt; has_bins(rt.alloc(), SliceKind::I, &[samples], 2, &SAMPLES, &SAMPLES)?);
     let pair = [detailed(), predicted()];
-    assert!(rt; has_bins(rt.alloc(), &pair, 24, &PREDICTED_FRONT, &PREDICTED_BACK)?);
+    assert!(rt;
+        has_bins(
+            rt.alloc(),
+            SliceKind::I,
+            &pair,
+            24,
+            &PREDICTED_FRONT,
+            &PREDICTED_BACK
+        )?
+    );
+    Ok(())
+}
+
+/// P_L0_16x16 with no vector difference and no levels, and with the 8x8 transform and a level in each quarter.
+fn whole() -> Mb {
+    Mb::without_elements(MbKind::P(0))
+}
+
+fn coded() -> Mb {
+    let mut mb = whole();
+    mb.t8 = true;
+    mb.pattern = Pattern {
+        luma: 15,
+        chroma: 0,
+    };
+    for quarter in mb.luma.iter_mut() {
+        quarter[0] = 1;
+    }
+    mb
+}
+
+static WHOLE: [(Kind, bool); 11] = [
+    (Context(11), false),
+    (Context(14), false),
+    (Context(15), false),
+    (Context(16), false),
+    (Context(40), false),
+    (Context(47), false),
+    (Context(73), false),
+    (Context(74), false),
+    (Context(75), false),
+    (Context(76), false),
+    (Context(77), false),
+];
+
+static CODED: [(Kind, bool); 17] = [
+    (Context(11), false),
+    (Context(14), false),
+    (Context(15), false),
+    (Context(16), false),
+    (Context(40), false),
+    (Context(47), false),
+    (Context(73), true),
+    (Context(73), true),
+    (Context(73), true),
+    (Context(73), true),
+    (Context(77), false),
+    (Context(399), true),
+    (Context(60), false),
+    (Context(402), true),
+    (Context(417), true),
+    (Context(427), false),
+    (Kind::Bypass, false),
+];
+
+static LEVEL: [(Kind, bool); 4] = [
+    (Context(402), true),
+    (Context(417), true),
+    (Context(427), false),
+    (Kind::Bypass, false),
+];
+
+/// Skipped beside one that isn't, and intra in P.
+static SKIPPED: [(Kind, bool); 1] = [(Context(12), true)];
+
+static INTRA_IN_P: [(Kind, bool); 7] = [
+    (Context(11), false),
+    (Context(14), true),
+    (Context(17), true),
+    (End, false),
+    (Context(18), false),
+    (Context(19), false),
+    (Context(20), true),
+];
+
+/// B_Direct_16x16 beside a skipped one, B_L0_L1_16x8, and intra beside one that isn't direct.
+static DIRECT: [(Kind, bool); 7] = [
+    (Context(24), false),
+    (Context(27), false),
+    (Context(74), false),
+    (Context(74), false),
+    (Context(76), false),
+    (Context(76), false),
+    (Context(77), false),
+];
+
+static ROWS: [(Kind, bool); 16] = [
+    (Context(24), false),
+    (Context(27), true),
+    (Context(30), true),
+    (Context(31), false),
+    (Context(32), true),
+    (Context(32), false),
+    (Context(32), true),
+    (Context(40), false),
+    (Context(47), false),
+    (Context(40), false),
+    (Context(47), false),
+    (Context(73), false),
+    (Context(74), false),
+    (Context(75), false),
+    (Context(76), false),
+    (Context(77), false),
+];
+
+static INTRA_IN_B: [(Kind, bool); 8] = [
+    (Context(25), false),
+    (Context(28), true),
+    (Context(30), true),
+    (Context(31), true),
+    (Context(32), true),
+    (Context(32), false),
+    (Context(32), true),
+    (Context(32), true),
+];
+
+static INTRA_BACK: [(Kind, bool); 3] = [
+    (Context(64), false),
+    (Context(60), false),
+    (Context(87), false),
+];
+
+#[test]
+fn bins_of_p_and_b(rt: HostRuntime) -> Result<(), Fail> {
+    let skipped = Mb::without_elements(MbKind::Skip);
+    let direct = Mb::without_elements(MbKind::B(0));
+    let rows = Mb::without_elements(MbKind::B(8));
+    let cases: [(SliceKind, &[Mb], usize, &[(Kind, bool)], &[(Kind, bool)]); 7] = [
+        (SliceKind::P, &[whole()], 11, &WHOLE, &WHOLE),
+        (SliceKind::P, &[coded()], 29, &CODED, &LEVEL),
+        (SliceKind::P, &[whole(), skipped], 1, &SKIPPED, &SKIPPED),
+        (SliceKind::P, &[flat()], 11, &INTRA_IN_P, &FLAT_BACK),
+        (SliceKind::B, &[skipped, direct], 7, &DIRECT, &DIRECT),
+        (SliceKind::B, &[rows], 16, &ROWS, &ROWS),
+        (SliceKind::B, &[rows, flat()], 16, &INTRA_IN_B, &INTRA_BACK),
+    ];
+    for (kind, mbs, count, front, back) in &cases {
+        assert!(rt; has_bins(rt.alloc(), *kind, mbs, *count, front, back)?);
+    }
     Ok(())
 }
 
@@ -190,7 +348,13 @@ fn flags_of_blocks(rt: HostRuntime) -> Result<(), Fail> {
     // the macroblock, and the context of the flag of Cb's DC levels: without a neighbour, and beside levels of Cr alone
     for (at, cb) in [(0, 100), (1, 99)] {
         let mut bins = Bins::new(rt.alloc());
-        put(rt.alloc(), &mut bins, &row(2), &[blocks(), blocks()], at)?;
+        put(
+            rt.alloc(),
+            &mut bins,
+            &row(SliceKind::I, 2),
+            &[blocks(), blocks()],
+            at,
+        )?;
         let expected = [
             (95, true),
             (96, false),
@@ -208,7 +372,7 @@ fn flags_of_blocks(rt: HostRuntime) -> Result<(), Fail> {
 fn segment_of(alloc: Global, init: &InitTable, mb: &Mb) -> Result<Option<Vec<u8>>, Memory> {
     let encoder = Encoder::start(alloc, BitVec::new(alloc));
     let mut coder = OutCoder::new(Contexts::start(init, 26, 0), encoder);
-    if !put(alloc, &mut coder, &row(1), &[*mb], 0)? {
+    if !put(alloc, &mut coder, &row(SliceKind::I, 1), &[*mb], 0)? {
         return Ok(None);
     }
     coder.end(true)?;
@@ -222,9 +386,18 @@ fn read_back(alloc: Global, init: &InitTable, bytes: &[u8]) -> Result<Option<Mb>
         return Ok(None);
     };
     let mut coder = InCoder::new(Contexts::start(init, 26, 0), decoder);
-    let none = rows_of(alloc, &row(1), &[])?;
+    let none = rows_of(alloc, &row(SliceKind::I, 1), &[])?;
     let mut read = Mb::without_elements(MbKind::Skip);
-    if read_macroblock(&mut coder, &row(1), &none, 0, false, &mut read).is_none() {
+    if read_macroblock(
+        &mut coder,
+        &row(SliceKind::I, 1),
+        &none,
+        0,
+        false,
+        &mut read,
+    )
+    .is_none()
+    {
         return Ok(None);
     }
     let (_contexts, _bits) = coder.into_parts();

@@ -1,5 +1,5 @@
-//! The data of I slices in CABAC (7.3.4): how many macroblocks are read, with which samples, where there is no reading, and
-//! what is written.
+//! The data of slices in CABAC (7.3.4): how many macroblocks are read, with which samples, where there is no reading, and what
+//! is written.
 ghost use Rattle.std.specs.Prelude.{◌≡◌, false, All, IsTrue};
 ghost use Rattle.h264_types.specs.Valid.{IsSlice};
 ghost use Rattle.cabac_syntax.specs.SliceData.{IsBuiltShape};
@@ -13,16 +13,16 @@ use slice_data::{SliceFault, SliceReader, SliceWriter, Step};
 use std::alloc::{AllocError as Memory, Global};
 use std::test::Fail;
 
-/// An I slice that begins a picture of one row.
-fn row(width: u32) -> SliceShape {
+/// A slice that begins a picture of one row.
+fn row(kind: SliceKind, width: u32) -> SliceShape {
     SliceShape {
-        kind: SliceKind::I,
+        kind,
         width,
         height: 1,
         first: 0,
         mbaff: false,
         field_pic: false,
-        refs: [0, 0],
+        refs: [1, 1],
         t8_mode: false,
         direct8: true,
         profile: 77,
@@ -31,11 +31,11 @@ fn row(width: u32) -> SliceShape {
     }
 }
 
-/// The shape is that of an I slice outside MBAFF.
+/// The shape is that of a slice outside MBAFF.
 fn is_built(shape: &SliceShape) -> bool
     ensures { IsTrue result → IsBuiltShape shape.now }
 {
-    shape.is_shape() && !shape.mbaff && matches!(shape.kind, SliceKind::I)
+    shape.is_shape() && !shape.mbaff
 }
 
 /// Each byte so many times.
@@ -67,15 +67,37 @@ fn count<R: SliceReader>(reader: &mut R) -> (u8, u8, Option<SliceFault>) {
 
 const NO_READING: Option<SliceFault> = Some(SliceFault::NoReading);
 
-/// The width of the picture, the bytes, of which the first bit ends the header, how many macroblocks and samples are read, and the
-/// refusal. All contexts start in state 0 with the most probable value 1.
-static DATA: [(u32, &[(u16, u8)], u8, u8, Option<SliceFault>); 12] = [
+/// The kind of the slice and the width of its picture, the bytes, of which the first bit ends the header, how many macroblocks and
+/// samples are read, and the refusal. All contexts start in state 0 with the most probable value 1.
+static DATA: [(SliceKind, u32, &[(u16, u8)], u8, u8, Option<SliceFault>); 21] = [
     // I_16x16 without levels; with cabac_zero_words behind it
-    (1, &[(1, 0xFF), (1, 0x75), (1, 0xFF)], 1, 0, None),
-    (2, &[(1, 0xFF), (1, 0x75), (1, 0xFF)], 1, 0, None),
-    (1, &[(1, 0xFF), (1, 0x75), (1, 0xFF), (4, 0)], 1, 0, None),
+    (
+        SliceKind::I,
+        1,
+        &[(1, 0xFF), (1, 0x75), (1, 0xFF)],
+        1,
+        0,
+        None,
+    ),
+    (
+        SliceKind::I,
+        2,
+        &[(1, 0xFF), (1, 0x75), (1, 0xFF)],
+        1,
+        0,
+        None,
+    ),
+    (
+        SliceKind::I,
+        1,
+        &[(1, 0xFF), (1, 0x75), (1, 0xFF), (4, 0)],
+        1,
+        0,
+        None,
+    ),
     // half a zero word, another byte, a last bit 0, an alignment bit 0, and fewer bits than a segment has
     (
+        SliceKind::I,
         1,
         &[(1, 0xFF), (1, 0x75), (1, 0xFF), (3, 0)],
         1,
@@ -83,18 +105,41 @@ static DATA: [(u32, &[(u16, u8)], u8, u8, Option<SliceFault>); 12] = [
         NO_READING,
     ),
     (
+        SliceKind::I,
         1,
         &[(1, 0xFF), (1, 0x75), (1, 0xFF), (1, 0), (1, 1)],
         1,
         0,
         NO_READING,
     ),
-    (1, &[(1, 0xFF), (1, 0x75), (1, 0xFE)], 1, 0, NO_READING),
-    (1, &[(1, 0xFE), (1, 0x75), (1, 0xFF)], 0, 0, NO_READING),
-    (1, &[(1, 0xFF), (1, 0x75)], 0, 0, NO_READING),
-    (1, &[(1, 0xFF), (1, 0xFF), (1, 0x80)], 0, 0, NO_READING),
+    (
+        SliceKind::I,
+        1,
+        &[(1, 0xFF), (1, 0x75), (1, 0xFE)],
+        1,
+        0,
+        NO_READING,
+    ),
+    (
+        SliceKind::I,
+        1,
+        &[(1, 0xFE), (1, 0x75), (1, 0xFF)],
+        0,
+        0,
+        NO_READING,
+    ),
+    (SliceKind::I, 1, &[(1, 0xFF), (1, 0x75)], 0, 0, NO_READING),
+    (
+        SliceKind::I,
+        1,
+        &[(1, 0xFF), (1, 0xFF), (1, 0x80)],
+        0,
+        0,
+        NO_READING,
+    ),
     // three I_PCM macroblocks, whose contexts go on over the segments
     (
+        SliceKind::I,
         3,
         &[
             (1, 0xFF),
@@ -113,6 +158,7 @@ static DATA: [(u32, &[(u16, u8)], u8, u8, Option<SliceFault>); 12] = [
     ),
     // a bit 1 before samples, and in a picture of two
     (
+        SliceKind::I,
         3,
         &[
             (1, 0xFF),
@@ -127,6 +173,7 @@ static DATA: [(u32, &[(u16, u8)], u8, u8, Option<SliceFault>); 12] = [
         NO_READING,
     ),
     (
+        SliceKind::I,
         2,
         &[
             (1, 0xFF),
@@ -143,6 +190,95 @@ static DATA: [(u32, &[(u16, u8)], u8, u8, Option<SliceFault>); 12] = [
         2,
         NO_READING,
     ),
+    // one skipped macroblock, and two, in P and in B; with cabac_zero_words behind it, and with a last bit 0
+    (
+        SliceKind::P,
+        1,
+        &[(1, 0xFF), (1, 0x86), (1, 0x80)],
+        1,
+        0,
+        None,
+    ),
+    (
+        SliceKind::P,
+        2,
+        &[(1, 0xFF), (1, 0x45), (1, 0xC0)],
+        2,
+        0,
+        None,
+    ),
+    (
+        SliceKind::B,
+        1,
+        &[(1, 0xFF), (1, 0x86), (1, 0x80)],
+        1,
+        0,
+        None,
+    ),
+    (
+        SliceKind::B,
+        2,
+        &[(1, 0xFF), (1, 0x45), (1, 0xC0)],
+        2,
+        0,
+        None,
+    ),
+    (
+        SliceKind::P,
+        1,
+        &[(1, 0xFF), (1, 0x86), (1, 0x80), (4, 0)],
+        1,
+        0,
+        None,
+    ),
+    (
+        SliceKind::P,
+        1,
+        &[(1, 0xFF), (1, 0x86), (5, 0)],
+        1,
+        0,
+        NO_READING,
+    ),
+    // two skipped ones in a picture of one
+    (
+        SliceKind::P,
+        1,
+        &[(1, 0xFF), (1, 0x45), (1, 0xC0)],
+        1,
+        0,
+        NO_READING,
+    ),
+    // an I_PCM macroblock and a skipped one beside it, in P and in B
+    (
+        SliceKind::P,
+        2,
+        &[
+            (1, 0xFF),
+            (1, 0xA4),
+            (1, 0xF0),
+            (384, 0x80),
+            (1, 0x85),
+            (1, 0x80),
+        ],
+        2,
+        1,
+        None,
+    ),
+    (
+        SliceKind::B,
+        2,
+        &[
+            (1, 0xFF),
+            (1, 0x8B),
+            (1, 0xDA),
+            (385, 0x80),
+            (1, 0x85),
+            (1, 0x80),
+        ],
+        2,
+        1,
+        None,
+    ),
 ];
 
 #[test]
@@ -150,8 +286,8 @@ fn data_of_slices(rt: HostRuntime) -> Result<(), Fail> {
     let Ok(init) = InitTable::of("flat") else {
         return Err("no table")?;
     };
-    for (width, runs, given, sampled, fault) in &DATA {
-        let shape = row(*width);
+    for (kind, width, runs, given, sampled, fault) in &DATA {
+        let shape = row(*kind, *width);
         assert!(rt; is_built(&shape));
         let bytes = bytes_of(rt.alloc(), runs)?;
         let mut bits = SliceBits::new(bytes.as_slice());
@@ -199,11 +335,19 @@ fn data_of_slices_are_written(rt: HostRuntime) -> Result<(), Fail> {
     let flat = Mb::without_elements(MbKind::Intra(3));
     let mut sampled = Mb::without_elements(MbKind::Intra(25));
     sampled.pcm = [0x80; 384];
-    let rows: [(u32, &[Mb], usize); 2] = [(1, &[flat], 0), (3, &[sampled; 3], 9)];
-    for (width, mbs, place) in &rows {
-        let shape = row(*width);
+    let skipped = Mb::without_elements(MbKind::Skip);
+    let rows: [(usize, &[Mb]); 6] = [
+        (0, &[flat]),
+        (9, &[sampled; 3]),
+        (12, &[skipped]),
+        (15, &[skipped; 2]),
+        (19, &[sampled, skipped]),
+        (20, &[sampled, skipped]),
+    ];
+    for (place, mbs) in &rows {
+        let (kind, width, runs, _, _, _) = &DATA[*place];
+        let shape = row(*kind, *width);
         assert!(rt; is_built(&shape) && valid(&shape, mbs) && are_plain(mbs));
-        let (_, runs, _, _, _) = &DATA[*place];
         let bytes = bytes_of(rt.alloc(), runs)?;
         let found = written(rt.alloc(), shape, &init, mbs)?;
         assert!(rt; found.is_some_and(|found| found.as_slice() == bytes.as_slice()));
