@@ -6,6 +6,7 @@ use Rattle.binarisation.specs.Elements as syntax
 use Rattle.cabac_residual.specs.Block.{block}
 use Rattle.h264_types.specs.Kind.{is_intra, is_i_nxn, is_i_16x16, is_i_pcm}
 use Rattle.h264_types.specs.Macroblock.{pattern_of}
+use Rattle.h264_types.specs.Sizes.{HasSizes}
 use Rattle.h264_types.specs.Sent.{sends_t8_first, sends_t8_last, mode_count, sends_pattern, sends_qp_delta}
 use Rattle.h264_types.specs.declared.macroblock.Mb.{Mb}
 use Rattle.h264_types.specs.declared.macroblock.MbKind.{MbKind}
@@ -20,7 +21,8 @@ use Rattle.cabac_macroblock.specs.CodedBlockPattern.{with_luma_bit, luma_bit, lu
 use Rattle.cabac_inter.specs.InterPrediction.{inter_prediction}
 use Rattle.cabac_macroblock.specs.MbType.{of_kind}
 use Rattle.cabac_macroblock.specs.MacroblockLayer.{last_transform_size, qp_delta, coding, intra_elements, inter_elements, elements}
-use Rattle.cabac_macroblock.proofs.InterLaws.{inter_others}
+use Rattle.cabac_inter.proofs.ValidPrediction.{prediction_others}
+use Rattle.cabac_macroblock.proofs.InterLaws.{kind_sized}
 use Rattle.cabac_macroblock.specs.Stages.{before_t8, before_modes, before_chroma_mode, before_inter, before_pattern, before_chroma_pattern, before_last_t8, before_qp_delta}
 use Rattle.cabac_macroblock.proofs.Kept.{Keeps, keeps_value, keeps_then, keeps_put, keeps_if, keeps_each}
 
@@ -156,16 +158,16 @@ last_size_kept shape done at w mb is =
     keeps_if P (sends_t8_last shape mb.kind mb.subs mb.pattern) (syntax.t8 (incs.t8 shape done at mb.field mb) >>= (λ flag. Value (record mb { t8 = flag }))) (Value mb)
     (keeps_put P (syntax.t8 (incs.t8 shape done at mb.field mb)) (λ flag. record mb { t8 = flag }) (λ flag. is)) (keeps_value P mb is)
 
-pub inter_kept : (shape : SliceShape) (done : List Mb) (at : ℕ) (w mb : Mb) → before_inter mb ≡ w → Keeps (λ m. before_inter m ≡ w) (inter_prediction shape done at mb)
-inter_kept shape done at w mb is bins value h = ap before_inter (inter_others shape done at mb bins value h) ∙ is
+pub inter_kept : (shape : SliceShape) (done : List Mb) (at : ℕ) (w mb : Mb) → HasSizes mb → before_inter mb ≡ w → Keeps (λ m. before_inter m ≡ w) (inter_prediction shape done at mb)
+inter_kept shape done at w mb sizes is bins value h = ap before_inter (prediction_others shape done at mb value bins sizes h) ∙ is
 
-pub inter_elements_kept : (shape : SliceShape) (done : List Mb) (at : ℕ) (w mb : Mb) → before_inter mb ≡ w → Keeps (λ m. before_inter m ≡ w) (inter_elements shape done at mb)
+pub inter_elements_kept : (shape : SliceShape) (done : List Mb) (at : ℕ) (w mb : Mb) → HasSizes mb → before_inter mb ≡ w → Keeps (λ m. before_inter m ≡ w) (inter_elements shape done at mb)
 unfolding inter_elements
-inter_elements_kept shape done at w mb is =
+inter_elements_kept shape done at w mb sizes is =
     let P : Mb → Type 0 = λ m. before_inter m ≡ w in
     keeps_then P P (inter_prediction shape done at mb >>= pattern shape done at >>= last_transform_size shape done at) (coding shape done at)
     (keeps_then P P (inter_prediction shape done at mb >>= pattern shape done at) (last_transform_size shape done at)
-    (keeps_then P P (inter_prediction shape done at mb) (pattern shape done at) (inter_kept shape done at w mb is)
+    (keeps_then P P (inter_prediction shape done at mb) (pattern shape done at) (inter_kept shape done at w mb sizes is)
     (λ m h bins value g. ap before_inter (pattern_kept shape done at (before_pattern m) m refl bins value g) ∙ h))
     (λ m h bins value g. ap before_inter (last_size_kept shape done at (before_last_t8 m) m refl bins value g) ∙ h))
     (λ m h bins value g. ap before_inter (coding_kept shape done at (before_qp_delta m) m refl bins value g) ∙ h)
@@ -183,7 +185,7 @@ elements_typed shape done at field kind =
     keeps_if P (is_i_pcm kind) (Value w) (cond (is_intra kind) (intra_elements shape done at w) (inter_elements shape done at w)) (keeps_value P w (refl, refl, refl))
     (keeps_if P (is_intra kind) (intra_elements shape done at w) (inter_elements shape done at w)
     (λ bins value h. by (before_t8 value) (intra_elements_kept shape done at w w refl bins value h))
-    (λ bins value h. by (before_inter value) (inter_elements_kept shape done at w w refl bins value h)))
+    (λ bins value h. by (before_inter value) (inter_elements_kept shape done at w w (kind_sized field kind) refl bins value h)))
   where
     by : (m : Mb) → m ≡ of_kind field kind → IsTypedAs field kind m
     by m e = (ap (λ (n : Mb). n.kind) e, ap (λ (n : Mb). n.field) e, ap (λ (n : Mb). n.ref0) e)

@@ -12,6 +12,7 @@ use Rattle.binarisation.proofs.OneString.{value_one, differ_one}
 use Rattle.binarisation.proofs.ElementStrings.{flag_one, mode_one, qp_delta_one, up_to_two_one}
 use Rattle.binarisation.proofs.ElementStrings as strings
 use Rattle.h264_types.specs.Kind.{is_intra, is_i_nxn, is_i_pcm, is_skip}
+use Rattle.h264_types.specs.Sizes.{HasSizes}
 use Rattle.h264_types.specs.Sent.{sends_t8_first, sends_t8_last, mode_count, sends_pattern, sends_qp_delta}
 use Rattle.h264_types.specs.declared.macroblock.Mb.{Mb}
 use Rattle.h264_types.specs.declared.macroblock.MbKind.{MbKind}
@@ -27,7 +28,9 @@ use Rattle.cabac_inter.specs.InterPrediction.{inter_prediction}
 use Rattle.cabac_macroblock.specs.MbType.{of_kind, skip_flag, mb_type}
 use Rattle.cabac_macroblock.specs.MacroblockLayer.{last_transform_size, qp_delta, coding, intra_elements, inter_elements, elements, layer, macroblock}
 use Rattle.cabac_macroblock.proofs.CodingSteps.{elements_pcm, elements_intra, elements_inter}
-use Rattle.cabac_macroblock.proofs.InterLaws.{with_inter, inter_others, inter_one}
+use Rattle.cabac_inter.proofs.OnePrediction.{prediction_one}
+use Rattle.cabac_inter.proofs.ValidPrediction.{prediction_others}
+use Rattle.cabac_macroblock.proofs.InterLaws.{with_inter, kind_sized}
 use Rattle.cabac_macroblock.proofs.TypeLaws.{IsType, type_range, type_one, skip_one}
 use Rattle.cabac_macroblock.specs.Stages.{before_t8, before_modes, before_chroma_mode, before_inter, before_pattern, before_chroma_pattern, before_last_t8, before_qp_delta}
 use Rattle.cabac_macroblock.proofs.Kept.{Keeps, keeps_value, keeps_then, keeps_put, keeps_if, keeps_each, keeps_from}
@@ -138,9 +141,9 @@ unfolding chroma_mode
 mode_one_of shape done at mb =
     put_one (syntax.chroma_mode (incs.chroma_mode shape done at mb.field mb)) (λ mode. record mb { chroma_mode = mode }) (strings.chroma_mode_one _) (λ a b e. ap (λ (m : Mb). m.chroma_mode) e)
 
-prediction_one : (shape : SliceShape) (done : List Mb) (at : ℕ) (mb : Mb) → before_t8 mb ≡ mb → HasOneString (intra_prediction shape done at mb)
+intra_prediction_one : (shape : SliceShape) (done : List Mb) (at : ℕ) (mb : Mb) → before_t8 mb ≡ mb → HasOneString (intra_prediction shape done at mb)
 unfolding intra_prediction
-prediction_one shape done at mb is =
+intra_prediction_one shape done at mb is =
     then_one_back (λ (m : Mb). before_chroma_mode m ≡ m) (transform_size shape done at mb >>= modes) (chroma_mode shape done at) before_chroma_mode
     (keeps_then (λ (m : Mb). before_modes m ≡ m) (λ (m : Mb). before_chroma_mode m ≡ m) (transform_size shape done at mb) modes (size_settled shape done at mb is) modes_settled)
     (then_one_back (λ (m : Mb). before_modes m ≡ m) (transform_size shape done at mb) modes before_modes (size_settled shape done at mb is) (size_one shape done at mb)
@@ -242,7 +245,7 @@ unfolding intra_elements
 intra_elements_one shape done at mb each_residual is =
     then_one_back (λ (m : Mb). before_qp_delta m ≡ m) (intra_prediction shape done at mb >>= pattern shape done at) (coding shape done at) before_qp_delta
     (keeps_then (λ (m : Mb). before_pattern m ≡ m) (λ (m : Mb). before_qp_delta m ≡ m) (intra_prediction shape done at mb) (pattern shape done at) (prediction_settled shape done at mb is) (pattern_settled shape done at))
-    (then_one_back (λ (m : Mb). before_pattern m ≡ m) (intra_prediction shape done at mb) (pattern shape done at) before_pattern (prediction_settled shape done at mb is) (prediction_one shape done at mb is)
+    (then_one_back (λ (m : Mb). before_pattern m ≡ m) (intra_prediction shape done at mb) (pattern shape done at) before_pattern (prediction_settled shape done at mb is) (intra_prediction_one shape done at mb is)
     (pattern_one shape done at) (λ m h. pattern_kept shape done at m m h))
     (λ m h. coding_one shape done at m each_residual h) (λ m h. coding_kept shape done at m m h)
 
@@ -252,9 +255,9 @@ intra_elements_one shape done at mb each_residual is =
 abbrev pub IsPredicted : Mb → Type 0
 IsPredicted m = (before_pattern m ≡ m) × (m.t8 ≡ false)
 
-pub inter_settled : (shape : SliceShape) (done : List Mb) (at : ℕ) (mb : Mb) → before_inter mb ≡ mb → Keeps IsPredicted (inter_prediction shape done at mb)
-inter_settled shape done at mb is bins value h =
-    let same : value ≡ with_inter mb value = inter_others shape done at mb bins value h in
+pub inter_settled : (shape : SliceShape) (done : List Mb) (at : ℕ) (mb : Mb) → HasSizes mb → before_inter mb ≡ mb → Keeps IsPredicted (inter_prediction shape done at mb)
+inter_settled shape done at mb sizes is bins value h =
+    let same : value ≡ with_inter mb value = prediction_others shape done at mb value bins sizes h in
     let whole : before_inter (with_inter mb value) ≡ mb = is in
     let settled : before_pattern (with_inter mb value) ≡ with_inter mb value = ap (λ (m : Mb). with_inter (before_pattern m) value) (sym is) ∙ ap (λ (m : Mb). with_inter m value) is in
     (ap before_pattern same ∙ settled ∙ sym same, ap (λ (m : Mb). m.t8) same ∙ ap (λ (m : Mb). m.t8) (sym is))
@@ -278,23 +281,23 @@ last_size_one shape done at mb =
     if_one (sends_t8_last shape mb.kind mb.subs mb.pattern) (syntax.t8 (incs.t8 shape done at mb.field mb) >>= (λ flag. Value (record mb { t8 = flag }))) (Value mb)
     (put_one (syntax.t8 (incs.t8 shape done at mb.field mb)) (λ flag. record mb { t8 = flag }) (flag_one _) (λ a b e. ap (λ (m : Mb). m.t8) e)) (value_one mb)
 
-inter_elements_one : (shape : SliceShape) (done : List Mb) (at : ℕ) (mb : Mb) → ((m : Mb) → HasOneString (residual shape done at (without_levels m))) → HasOneString (inter_prediction shape done at mb) → before_inter mb ≡ mb
+inter_elements_one : (shape : SliceShape) (done : List Mb) (at : ℕ) (mb : Mb) → ((m : Mb) → HasOneString (residual shape done at (without_levels m))) → HasSizes mb → before_inter mb ≡ mb
     → HasOneString (inter_elements shape done at mb)
 unfolding inter_elements
-inter_elements_one shape done at mb each_residual one is =
-    let patterned = keeps_then IsPredicted (λ (m : Mb). before_last_t8 m ≡ m) (inter_prediction shape done at mb) (pattern shape done at) (inter_settled shape done at mb is) (inter_pattern_settled shape done at) in
+inter_elements_one shape done at mb each_residual sizes is =
+    let patterned = keeps_then IsPredicted (λ (m : Mb). before_last_t8 m ≡ m) (inter_prediction shape done at mb) (pattern shape done at) (inter_settled shape done at mb sizes is) (inter_pattern_settled shape done at) in
     then_one_back (λ (m : Mb). before_qp_delta m ≡ m) (inter_prediction shape done at mb >>= pattern shape done at >>= last_transform_size shape done at) (coding shape done at) before_qp_delta
     (keeps_then (λ (m : Mb). before_last_t8 m ≡ m) (λ (m : Mb). before_qp_delta m ≡ m) (inter_prediction shape done at mb >>= pattern shape done at) (last_transform_size shape done at) patterned (last_size_settled shape done at))
     (then_one_back (λ (m : Mb). before_last_t8 m ≡ m) (inter_prediction shape done at mb >>= pattern shape done at) (last_transform_size shape done at) before_last_t8 patterned
-    (then_one_back IsPredicted (inter_prediction shape done at mb) (pattern shape done at) before_pattern (inter_settled shape done at mb is) one
+    (then_one_back IsPredicted (inter_prediction shape done at mb) (pattern shape done at) before_pattern (inter_settled shape done at mb sizes is) (prediction_one shape done at mb sizes)
     (λ m h. pattern_one shape done at m h.0) (λ m h. pattern_kept shape done at m m h.0))
     (λ m h. last_size_one shape done at m) (λ m h. last_size_kept shape done at m m h))
     (λ m h. coding_one shape done at m each_residual h) (λ m h. coding_kept shape done at m m h)
 
 -- ---- by the type
 
-elements_one : (shape : SliceShape) (done : List Mb) (at : ℕ) (field : Bool) (kind : MbKind) → ((m : Mb) → HasOneString (residual shape done at (without_levels m))) → IsType shape kind → HasOneString (elements shape done at (of_kind field kind))
-elements_one shape done at field kind each_residual (is, sent) = by (is_i_pcm kind) (is_intra kind) refl refl
+elements_one : (shape : SliceShape) (done : List Mb) (at : ℕ) (field : Bool) (kind : MbKind) → ((m : Mb) → HasOneString (residual shape done at (without_levels m))) → HasOneString (elements shape done at (of_kind field kind))
+elements_one shape done at field kind each_residual = by (is_i_pcm kind) (is_intra kind) refl refl
   where
     mb : Mb
     mb = of_kind field kind
@@ -302,13 +305,13 @@ elements_one shape done at field kind each_residual (is, sent) = by (is_i_pcm ki
     by : (pcm intra : Bool) → is_i_pcm kind ≡ pcm → is_intra kind ≡ intra → HasOneString (elements shape done at mb)
     by true intra e h = rw (elements_pcm shape done at mb e) (value_one mb)
     by false true e h = rw (elements_intra shape done at mb e h) (intra_elements_one shape done at mb each_residual refl)
-    by false false e h = rw (elements_inter shape done at mb e h) (inter_elements_one shape done at mb each_residual (inter_one shape done at field kind h is) refl)
+    by false false e h = rw (elements_inter shape done at mb e h) (inter_elements_one shape done at mb each_residual (kind_sized field kind) refl)
 
 layer_one : (shape : SliceShape) (done : List Mb) (at : ℕ) (field : Bool) → ((m : Mb) → HasOneString (residual shape done at (without_levels m))) → HasOneString (layer shape done at field)
 unfolding layer
 layer_one shape done at field each_residual =
     then_one_where (IsType shape) (mb_type shape done at field) (λ kind. elements shape done at (of_kind field kind)) (type_range shape done at field) (type_one shape done at field)
-    (λ kind is. elements_one shape done at field kind each_residual is)
+    (λ kind is. elements_one shape done at field kind each_residual)
     (λ x y first second value p q h g. sym (elements_typed shape done at field x first value h).0 ∙ (elements_typed shape done at field y second value g).0)
 
 -- a layer isn't that of a skipped macroblock

@@ -28,6 +28,7 @@ use Rattle.cabac_macroblock.proofs.Kept.{Keeps, keeps_value, keeps_put, keeps_pu
 use Rattle.cabac_macroblock.proofs.Values.{mode_range, chroma_mode_range, chroma_range}
 use Rattle.cabac_macroblock.specs.MbType.{of_kind}
 use Rattle.cabac_macroblock.proofs.KeptElements.{luma_bits_kept, chroma_pattern_kept}
+use Rattle.cabac_macroblock.proofs.InterLaws.{each_of}
 use Rattle.cabac_macroblock.proofs.OneMacroblock.{IsLow, low_more}
 use Rattle.h264_types.proofs.KindLaws.{mode_count-most}
 
@@ -153,10 +154,6 @@ zero_chroma m = record {
   cb_ac = All-replicate (IsWithin _) 4 (replicate 15 (pos 0)) (zeros_within _ 15);
   cr_ac = All-replicate (IsWithin _) 4 (replicate 15 (pos 0)) (zeros_within _ 15);
 }
-
-pub each_of : {A : Type 0} (Is : A → Type 0) (x : A) → Is x → (n : ℕ) → AllByRecursion Is (replicate n x)
-each_of Is x h zero = tt
-each_of Is x h (suc n) = (h, each_of Is x h n)
 
 -- an intra macroblock, with the pattern and mb_qp_delta
 pub sized : (field : Bool) (kind : MbKind) (m : Mb) → before_t8 m ≡ of_kind field kind → length m.modes ≡ 16 → HasSizes (without_levels m)

@@ -41,7 +41,8 @@ use Rattle.cabac_macroblock.proofs.KeptElements.{residual_kept, coding_kept, las
 use Rattle.cabac_macroblock.proofs.OneMacroblock.{size_settled, modes_settled, mode_settled, pattern_settled, inter_settled, inter_pattern_settled, last_size_settled}
 use Rattle.cabac_macroblock.proofs.CodingSteps.{elements_pcm, elements_intra, elements_inter}
 use Rattle.cabac_macroblock.proofs.Absent.{neither, none_sent}
-use Rattle.cabac_macroblock.proofs.InterLaws.{HasInter, inter_valid}
+use Rattle.cabac_inter.proofs.ValidPrediction.{prediction_valid, prediction_sizes}
+use Rattle.cabac_macroblock.proofs.InterLaws.{kind_sized}
 use Rattle.cabac_macroblock.proofs.TypeLaws.{IsType, type_range}
 use Rattle.cabac_macroblock.proofs.Values.{delta_range}
 use Rattle.cabac_macroblock.proofs.ValidElements.{IsSized, AreModes, IsPatterned, size_valid, modes_valid, chroma_mode_valid, pattern_valid, zero_luma, zero_chroma, sized}
@@ -295,28 +296,30 @@ inter_not_16x16 Skip e = refl
 inter_not_16x16 (P n) e = refl
 inter_not_16x16 (B n) e = refl
 
-inter_sized : (field : Bool) (kind : MbKind) (shape : SliceShape) (x m : Mb) → before_inter m ≡ of_kind field kind → HasInter shape x → m.subs ≡ x.subs → m.refs ≡ x.refs → m.mvd ≡ x.mvd → HasSizes (without_levels m)
-inter_sized field kind shape x m e has subs refs mvd = record {
-  modes = ap (λ (n : Mb). length n.modes) e;
-  subs = ap length subs ∙ has.subs;
-  refs = subst (λ (l : List (List ℕ)). (length l ≡ 2) × AllByRecursion (λ list. length list ≡ 4) l) (sym refs) has.refs;
-  mvd = subst (λ (l : List (List (List ℤ))). (length l ≡ 2) × AllByRecursion (λ list. (length list ≡ 16) × AllByRecursion (λ difference. length difference ≡ 2) list) l) (sym mvd) has.mvd;
-  dc = refl;
-  luma = (refl, (refl, (refl, (refl, (refl, tt)))));
-  chroma_dc = (refl, (refl, (refl, tt)));
-  chroma_ac = (refl, ((refl, (refl, (refl, (refl, (refl, tt))))), ((refl, (refl, (refl, (refl, (refl, tt))))), tt)));
-  pcm = ap (λ (n : Mb). length n.pcm) e;
-}
+inter_sized : (field : Bool) (kind : MbKind) (x m : Mb) → before_inter m ≡ of_kind field kind → HasSizes x → m.subs ≡ x.subs → m.refs ≡ x.refs → m.mvd ≡ x.mvd → HasSizes (without_levels m)
+inter_sized field kind x m e has subs refs mvd =
+    let none = kind_sized field kind in
+    record {
+      modes = ap (λ (n : Mb). length n.modes) e;
+      subs = ap length subs ∙ has.subs;
+      refs = subst (λ (l : List (List ℕ)). (length l ≡ 2) × AllByRecursion (λ list. length list ≡ 4) l) (sym refs) has.refs;
+      mvd = subst (λ (l : List (List (List ℤ))). (length l ≡ 2) × AllByRecursion (λ list. (length list ≡ 16) × AllByRecursion (λ difference. length difference ≡ 2) list) l) (sym mvd) has.mvd;
+      dc = none.dc;
+      luma = none.luma;
+      chroma_dc = none.chroma_dc;
+      chroma_ac = none.chroma_ac;
+      pcm = ap (λ (n : Mb). length n.pcm) e ∙ none.pcm;
+    }
 
 inter_elements_valid : (shape : SliceShape) (done : List Mb) (at : ℕ) (field : Bool) (kind : MbKind) → IsResidualLaw shape done at → Reads shape field kind → is_intra kind ≡ false → Keeps (IsSpelled shape) (inter_elements shape done at (of_kind field kind))
 unfolding inter_elements
 inter_elements_valid shape done at field kind law r inter bins value h =
     let m0 : Mb = of_kind field kind in
-    let whole : before_inter value ≡ m0 = inter_elements_kept shape done at m0 m0 refl bins value h in
+    let whole : before_inter value ≡ m0 = inter_elements_kept shape done at m0 m0 (kind_sized field kind) refl bins value h in
     let a = splits (inter_prediction shape done at m0 >>= pattern shape done at >>= last_transform_size shape done at) (coding shape done at) bins value h in
     let b = splits (inter_prediction shape done at m0 >>= pattern shape done at) (last_transform_size shape done at) a.1 a.0 a.4 in
     let c = splits (inter_prediction shape done at m0) (pattern shape done at) b.1 b.0 b.4 in
-    let s1 = inter_settled shape done at m0 refl c.1 c.0 c.4 in
+    let s1 = inter_settled shape done at m0 (kind_sized field kind) refl c.1 c.0 c.4 in
     let s2 : before_last_t8 b.0 ≡ b.0 = inter_pattern_settled shape done at c.0 s1 c.2 b.0 c.5 in
     let s3 : before_qp_delta a.0 ≡ a.0 = last_size_settled shape done at b.0 s2 b.2 a.0 b.5 in
     let k1 : before_pattern b.0 ≡ c.0 = pattern_kept shape done at c.0 c.0 s1.0 c.2 b.0 c.5 in
@@ -324,9 +327,10 @@ inter_elements_valid shape done at field kind law r inter bins value h =
     let k3 : before_qp_delta value ≡ a.0 = coding_kept shape done at a.0 a.0 s3 a.2 value a.5 in
     let v2 : before_last_t8 value ≡ b.0 = ap before_last_t8 k3 ∙ k2 in
     let v1 : record (before_pattern value) { t8 = false } ≡ c.0 = ap before_pattern v2 ∙ k1 in
-    let has : HasInter shape c.0 = inter_valid shape done at field kind c.1 c.0 inter r.type.1 r.type.0 c.4 in
+    let has : HasSizes c.0 = prediction_sizes shape done at m0 c.0 c.1 (kind_sized field kind) c.4 in
+    let first : IsInterPredicted shape c.0 = prediction_valid shape done at m0 c.0 c.1 (kind_sized field kind) c.4 in
     let predicted : IsInterPredicted shape value =
-    same_inter shape c.0 value (ap (λ (n : Mb). n.kind) v1) (ap (λ (n : Mb). n.field) v1) (ap (λ (n : Mb). n.subs) v1) (ap (λ (n : Mb). n.refs) v1) (ap (λ (n : Mb). n.mvd) v1) has.predicted in
+    same_inter shape c.0 value (ap (λ (n : Mb). n.kind) v1) (ap (λ (n : Mb). n.field) v1) (ap (λ (n : Mb). n.subs) v1) (ap (λ (n : Mb). n.refs) v1) (ap (λ (n : Mb). n.mvd) v1) first in
     let patterned : IsPatterned value =
     let of_b : IsPatterned b.0 = pattern_valid shape done at c.0 s1.0 c.2 b.0 c.5 in
     let of_last : IsPatterned (before_last_t8 value) = subst IsPatterned (sym v2) of_b in
@@ -335,7 +339,7 @@ inter_elements_valid shape done at field kind law r inter bins value h =
     let size : IsSizedLast shape value = let there : IsSizedLast shape (before_qp_delta value) = subst (IsSizedLast shape) (sym k3) size_a in there in
     let whole_before : before_inter a.0 ≡ m0 = ap before_inter (sym k3) ∙ whole in
     let before : record (before_pattern a.0) { t8 = false } ≡ c.0 = ap before_pattern k2 ∙ k1 in
-    let sizes : HasSizes (without_levels a.0) = inter_sized field kind shape c.0 a.0 whole_before has (ap (λ (n : Mb). n.subs) before) (ap (λ (n : Mb). n.refs) before) (ap (λ (n : Mb). n.mvd) before) in
+    let sizes : HasSizes (without_levels a.0) = inter_sized field kind c.0 a.0 whole_before has (ap (λ (n : Mb). n.subs) before) (ap (λ (n : Mb). n.refs) before) (ap (λ (n : Mb). n.mvd) before) in
     let apart : a.0.t8 ≡ true → is_i_16x16 a.0.kind ≡ false = λ set. ap is_i_16x16 (ap (λ (n : Mb). n.kind) whole_before) ∙ inter_not_16x16 kind inter in
     let of : IsOfKind shape field kind value = of_kind_of shape field kind value (before_inter value) r whole refl refl refl refl in
     assemble shape field kind value of (t8_last_sent shape value size) (inter_modes value (ap (λ (n : Mb). n.modes) whole) (ap (λ (n : Mb). n.chroma_mode) whole)) predicted patterned

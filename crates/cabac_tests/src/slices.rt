@@ -327,6 +327,19 @@ fn written(
     filled(writer.finish()?)
 }
 
+/// The bytes of slice data behind one bit, of macroblocks that are a slice's.
+fn data_of(
+    alloc: Global,
+    shape: SliceShape,
+    init: &InitTable,
+    mbs: &[Mb],
+) -> Result<Option<Vec<u8>>, Memory> {
+    if is_built(&shape) && valid(&shape, mbs) && are_plain(mbs) {
+        return written(alloc, shape, init, mbs);
+    }
+    Ok(None)
+}
+
 #[test]
 fn data_of_slices_are_written(rt: HostRuntime) -> Result<(), Fail> {
     let Ok(init) = InitTable::of("flat") else {
@@ -347,9 +360,8 @@ fn data_of_slices_are_written(rt: HostRuntime) -> Result<(), Fail> {
     for (place, mbs) in &rows {
         let (kind, width, runs, _, _, _) = &DATA[*place];
         let shape = row(*kind, *width);
-        assert!(rt; is_built(&shape) && valid(&shape, mbs) && are_plain(mbs));
         let bytes = bytes_of(rt.alloc(), runs)?;
-        let found = written(rt.alloc(), shape, &init, mbs)?;
+        let found = data_of(rt.alloc(), shape, &init, mbs)?;
         assert!(rt; found.is_some_and(|found| found.as_slice() == bytes.as_slice()));
     }
     Ok(())
