@@ -159,7 +159,7 @@ last_size_kept shape done at w mb is =
     (keeps_put P (syntax.t8 (incs.t8 shape done at mb.field mb)) (λ flag. record mb { t8 = flag }) (λ flag. is)) (keeps_value P mb is)
 
 pub inter_kept : (shape : SliceShape) (done : List Mb) (at : ℕ) (w mb : Mb) → HasSizes mb → before_inter mb ≡ w → Keeps (λ m. before_inter m ≡ w) (inter_prediction shape done at mb)
-inter_kept shape done at w mb sizes is bins value h = ap before_inter (prediction_others shape done at mb value bins sizes h) ∙ is
+inter_kept shape done at w mb sizes is bins value h = ap before_inter (prediction_others shape done at mb sizes value bins h) ∙ is
 
 pub inter_elements_kept : (shape : SliceShape) (done : List Mb) (at : ℕ) (w mb : Mb) → HasSizes mb → before_inter mb ≡ w → Keeps (λ m. before_inter m ≡ w) (inter_elements shape done at mb)
 unfolding inter_elements

@@ -257,7 +257,7 @@ IsPredicted m = (before_pattern m ≡ m) × (m.t8 ≡ false)
 
 pub inter_settled : (shape : SliceShape) (done : List Mb) (at : ℕ) (mb : Mb) → HasSizes mb → before_inter mb ≡ mb → Keeps IsPredicted (inter_prediction shape done at mb)
 inter_settled shape done at mb sizes is bins value h =
-    let same : value ≡ with_inter mb value = prediction_others shape done at mb value bins sizes h in
+    let same : value ≡ with_inter mb value = prediction_others shape done at mb sizes value bins h in
     let whole : before_inter (with_inter mb value) ≡ mb = is in
     let settled : before_pattern (with_inter mb value) ≡ with_inter mb value = ap (λ (m : Mb). with_inter (before_pattern m) value) (sym is) ∙ ap (λ (m : Mb). with_inter m value) is in
     (ap before_pattern same ∙ settled ∙ sym same, ap (λ (m : Mb). m.t8) same ∙ ap (λ (m : Mb). m.t8) (sym is))

@@ -327,8 +327,8 @@ inter_elements_valid shape done at field kind law r inter bins value h =
     let k3 : before_qp_delta value ≡ a.0 = coding_kept shape done at a.0 a.0 s3 a.2 value a.5 in
     let v2 : before_last_t8 value ≡ b.0 = ap before_last_t8 k3 ∙ k2 in
     let v1 : record (before_pattern value) { t8 = false } ≡ c.0 = ap before_pattern v2 ∙ k1 in
-    let has : HasSizes c.0 = prediction_sizes shape done at m0 c.0 c.1 (kind_sized field kind) c.4 in
-    let first : IsInterPredicted shape c.0 = prediction_valid shape done at m0 c.0 c.1 (kind_sized field kind) c.4 in
+    let has : HasSizes c.0 = prediction_sizes shape done at m0 (kind_sized field kind) c.0 c.1 c.4 in
+    let first : IsInterPredicted shape c.0 = prediction_valid shape done at m0 (kind_sized field kind) c.0 c.1 c.4 in
     let predicted : IsInterPredicted shape value =
     same_inter shape c.0 value (ap (λ (n : Mb). n.kind) v1) (ap (λ (n : Mb). n.field) v1) (ap (λ (n : Mb). n.subs) v1) (ap (λ (n : Mb). n.refs) v1) (ap (λ (n : Mb). n.mvd) v1) first in
     let patterned : IsPatterned value =

@@ -28,7 +28,7 @@ returns-in_err-read_pattern-clause-reads g c mbs stands =
     unread _ _ _ _ _ (ap (option_map _) c.from_residual-in_err-read_pattern.ensures)
     (reads_none step (first >>= pattern shape mbs c.args.at >>= last_transform_size shape mbs c.args.at) (coding shape mbs c.args.at) _ _
     (reads_none step (first >>= pattern shape mbs c.args.at) (last_transform_size shape mbs c.args.at) _ _
-    (reads_then step first (pattern shape mbs c.args.at) c.read_inter_prediction.new._mb _ _ _ _ (c.in_ok-read_inter_prediction.ensures.reads mbs stands) (c.in_err-read_pattern.ensures.reads mbs stands))))
+    (reads_then step first (pattern shape mbs c.args.at) c.read_inter_prediction.new.mb _ _ _ _ (c.in_ok-read_inter_prediction.ensures.reads mbs stands) (c.in_err-read_pattern.ensures.reads mbs stands))))
 
 pub returns-in_err-read_last_transform_size-clause-reads : goal.returns-in_err-read_last_transform_size-clause-reads
 unfolding inter_elements
@@ -39,7 +39,7 @@ returns-in_err-read_last_transform_size-clause-reads g c mbs stands =
     unread _ _ _ _ _ (ap (option_map _) c.from_residual-in_err-read_last_transform_size.ensures)
     (reads_none step (first >>= pattern shape mbs c.args.at >>= last_transform_size shape mbs c.args.at) (coding shape mbs c.args.at) _ _
     (reads_then step (first >>= pattern shape mbs c.args.at) (last_transform_size shape mbs c.args.at) c.read_pattern.new.mb _ _ _ _
-    (reads_then step first (pattern shape mbs c.args.at) c.read_inter_prediction.new._mb _ _ _ _ (c.in_ok-read_inter_prediction.ensures.reads mbs stands) (c.in_ok-read_pattern.ensures.reads mbs stands))
+    (reads_then step first (pattern shape mbs c.args.at) c.read_inter_prediction.new.mb _ _ _ _ (c.in_ok-read_inter_prediction.ensures.reads mbs stands) (c.in_ok-read_pattern.ensures.reads mbs stands))
     (c.in_err-read_last_transform_size.ensures.reads mbs stands)))
 
 pub returns-clause-reads : goal.returns-clause-reads
@@ -50,5 +50,5 @@ returns-clause-reads g c mbs stands =
     let first = inter_prediction shape mbs c.args.at c.args.mb.now in
     reads_then step (first >>= pattern shape mbs c.args.at >>= last_transform_size shape mbs c.args.at) (coding shape mbs c.args.at) c.read_last_transform_size.new.mb _ _ _ _
     (reads_then step (first >>= pattern shape mbs c.args.at) (last_transform_size shape mbs c.args.at) c.read_pattern.new.mb _ _ _ _
-    (reads_then step first (pattern shape mbs c.args.at) c.read_inter_prediction.new._mb _ _ _ _ (c.in_ok-read_inter_prediction.ensures.reads mbs stands) (c.in_ok-read_pattern.ensures.reads mbs stands))
+    (reads_then step first (pattern shape mbs c.args.at) c.read_inter_prediction.new.mb _ _ _ _ (c.in_ok-read_inter_prediction.ensures.reads mbs stands) (c.in_ok-read_pattern.ensures.reads mbs stands))
     (c.in_ok-read_last_transform_size.ensures.reads mbs stands)) (c.read_coding.ensures.reads mbs stands)
