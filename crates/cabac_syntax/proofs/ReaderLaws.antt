@@ -6,10 +6,8 @@ use Rattle.cabac_contexts.specs.Terms.{IsReadAt}
 use Rattle.cabac_macroblock.specs.MacroblockLayer.{macroblock, without_samples}
 use Rattle.cabac_macroblock.specs.MbType.{of_kind}
 use Rattle.cabac_macroblock.proofs.ValidMacroblock.{pcm_valid}
-use Rattle.cabac_mb_residual.specs.Levels.{IsResidual}
 use Rattle.h264_types.specs.Kind.{is_i_pcm}
 use Rattle.h264_types.specs.LastRows.{LastRows, AreRows}
-use Rattle.h264_types.specs.Valid.{IsMacroblock}
 use Rattle.h264_types.specs.declared.macroblock.Mb.{Mb}
 use Rattle.h264_types.specs.declared.macroblock.MbKind.TheVariants.{Intra}
 use Rattle.h264_types.specs.declared.slice_shape.SliceShape.{SliceShape}

@@ -1,5 +1,5 @@
-use Rattle.std.proofs.Common.{false, refl, sym, ap, subst, ◌∙◌}
-use Rattle.binarisation.specs.BinString.{Writes, ◌>>=◌}
+use Rattle.std.proofs.Common.{false, refl, sym, ap, ◌∙◌}
+use Rattle.binarisation.specs.BinString.{◌>>=◌}
 use Rattle.binarisation.proofs.Strings.{writes_then, on_ok}
 use Rattle.h264_types.specs.declared.macroblock.Mb.{Mb}
 use Rattle.cabac_inter.specs.InterPrediction.{inter_prediction}

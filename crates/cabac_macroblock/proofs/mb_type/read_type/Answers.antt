@@ -1,4 +1,3 @@
-use Rattle.std.proofs.Common.{refl}
 use Rattle.cabac_macroblock.proofs.Puts.{unread}
 use Rattle.cabac_macroblock.proofs.TypeSteps.{reads_type, reads_no_type}
 use Rattle.cabac_macroblock.proofs.mb_type.read_type.Goals as goal

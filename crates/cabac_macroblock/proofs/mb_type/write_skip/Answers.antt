@@ -1,4 +1,4 @@
-use Rattle.std.proofs.Common.{refl, sym, ◌∙◌}
+use Rattle.std.proofs.Common.{refl, sym}
 use Rattle.h264_types.specs.declared.slice_shape.SliceKind.TheVariants as slices
 use Rattle.binarisation.proofs.Strings.{on_ok}
 use Rattle.cabac_macroblock.proofs.TypeSteps.{flag_in, unskipped_in_i}

@@ -1,5 +1,4 @@
-use Rattle.std.proofs.Common.{refl, sym}
-use Rattle.binarisation.specs.BinString.{Writes}
+use Rattle.std.proofs.Common.{refl}
 use Rattle.h264_types.specs.declared.slice_shape.SliceKind.TheVariants as slices
 use Rattle.binarisation.proofs.Strings.{on_ok}
 use Rattle.cabac_macroblock.proofs.TypeSteps.{number_in, writes_type}
