@@ -1,20 +1,15 @@
 -- What is written for an item is read as that item in the wanted layer.
-use Rattle.std.proofs.Common.{◌≡◌, ◌≢◌, ℕ, ◌-◌, ◌%◌, ◌<◌, List, [], ◌∷◌, ◌++◌, length, Bool, true, false, cond, eqb, get_or, map, Some, None, option_map, refl, sym, ap, subst, ◌∙◌, arith, length-append, append_assoc, replicate}
-use Rattle.std.specs.Prelude.{◌||◌, ◌≤◌, if◌then◌else◌}
-use Rattle.header_parts.specs.SliceTypes.{is_i}
+use Rattle.std.proofs.Common.{◌≡◌, ◌≢◌, ℕ, ◌-◌, ◌%◌, ◌<◌, List, [], ◌∷◌, ◌++◌, length, Bool, true, false, cond, eqb, Some, None, option_map, refl, sym, ap, subst, ◌∙◌, arith, length-append, append_assoc, replicate}
+use Rattle.std.specs.Prelude.{if◌then◌else◌}
 use Rattle.std.proofs.lemmas.Bool.{eqb-true}
 use Rattle.bit_texts.specs.Bits.{bits_of, bytes_of}
 use Rattle.bit_texts.proofs.Bytes.{bits_of-bytes_of}
-use Rattle.cavlc_syntax.specs.SliceText.{IsNotBeyond, HasText, slice_text}
-use Rattle.cavlc_syntax.proofs.Texts.{lists_of_both, slice_fills, slice_stops}
 use Rattle.exp_golomb.specs.EmulationPrevention.{IsEscape, HasEscape, escaped}
 use Rattle.exp_golomb.specs.Syntax.{Found, Spells}
 use Rattle.h264_types.specs.Units.{IsHeaded}
 use Rattle.h264_types.specs.declared.layer.Layer.{Layer}
 use Rattle.h264_types.specs.declared.layer.Layer.TheVariants.{Cavlc, Cabac}
-use Rattle.h264_types.specs.declared.macroblock.Mb.{Mb}
-use Rattle.h264_types.specs.declared.slice_shape.SliceShape.{SliceShape}
-use Rattle.std.proofs.lemmas.List.Elements.{All-map}
+use Rattle.init_table.specs.declared.table.InitTable.{InitTable}
 use Rattle.annexb_units.proofs.Closed.{IsClosed-unit, EndsNonzero-unit}
 use Rattle.param_sets.specs.PpsCodes.{IsPps, mode_flag_of, pps_in, pps_text, pps_fields_text}
 use Rattle.param_sets.specs.Sets.{SetMaps, find_pps, find_sps, sps_put, pps_put}
@@ -32,7 +27,7 @@ use Rattle.param_sets.proofs.SpsTexts.{read_again as sps_again}
 use Rattle.param_sets.proofs.Trailing.{whole_payload}
 use Rattle.param_sets.proofs.TrailingWritten.{payload_ends}
 use Rattle.slice_header.specs.HeaderCodes.{HeaderFits, IsAllowed, Names, active_in, header_in, header_text, unconstrained}
-use Rattle.slice_header.specs.Shape.{is_mbaff, shape_of, column_of}
+use Rattle.slice_header.specs.Shape.{shape_of}
 use Rattle.header_parts.specs.ActiveSets.{Active}
 use Rattle.slice_header.specs.SliceHeader.{slice_header}
 use Rattle.header_parts.specs.declared.header.Header.{Header}
@@ -41,30 +36,30 @@ use Rattle.slice_header.proofs.HeaderLaws.{written_one, moved, in_range_unconstr
 use Rattle.slice_rewrite.specs.declared.kinds.UnitKind.{UnitKind}
 use Rattle.slice_rewrite.specs.declared.kinds.UnitKind.TheVariants.{Carried as IsCarried, Slice as IsSlice, Sps as IsSps, Pps as IsPpsUnit, Refused as IsRefused}
 use Rattle.slice_rewrite.specs.Items.{header_of, kind_of, kind_of_type, Slice, Item, Carried, TheSps, ThePps, TheSlice, put, is_unbuilt, IsUnit, IsSliceOf, IsItem}
-use Rattle.slice_rewrite.specs.Stops.{least_stop, slice_stop}
+use Rattle.slice_rewrite.specs.Stops.{slice_stop}
 use Rattle.slice_rewrite.specs.View.{IsWritable}
-use Rattle.slice_rewrite.specs.Written.{sps_unit, pps_unit, slice_in, slice_bits, slice_unit}
-use Rattle.slice_data.specs.WrittenForm.{written_mb}
-use Rattle.slice_rewrite.proofs.Normal.{slice_written}
-use Rattle.slice_rewrite.proofs.Slices.{fit, names-once}
-use Rattle.slice_rewrite.proofs.Stops.{all_go, goes_within, none_emptied}
+use Rattle.slice_rewrite.specs.Layers.{layer_of, HasDataIn, IsDataIn}
+use Rattle.slice_rewrite.specs.Written.{sps_unit, pps_unit, slice_in, IsSliceBits, IsSliceUnit}
+use Rattle.slice_rewrite.proofs.Layers.{normal_data_in, one_normal_in, fills_in, stops_in}
+use Rattle.slice_rewrite.proofs.Slices.{names-once, written_built, written_column}
+use Rattle.slice_rewrite.proofs.WrittenLists.{written_list}
 use Rattle.slice_rewrite.proofs.Splitting.{Fits}
 
 -- ## Items in their written form
 
--- the item in a layer
-abbrev pub item_in : Layer → Item → Item
-item_in to (Carried u) = Carried u
-item_in to (TheSps header sps) = TheSps header (without_constraints sps)
-item_in to (ThePps header pps) = ThePps header (pps_in to pps.pic_parameter_set_id pps)
-item_in to (TheSlice s) = TheSlice (slice_in to s)
+-- the item in a layer, where this is cabac_init_idc if it stands
+abbrev pub item_in : Layer → ℕ → Item → Item
+item_in to idc (Carried u) = Carried u
+item_in to idc (TheSps header sps) = TheSps header (without_constraints sps)
+item_in to idc (ThePps header pps) = ThePps header (pps_in to pps.pic_parameter_set_id pps)
+item_in to idc (TheSlice s) = TheSlice (slice_in to idc s)
 
 -- the unit that is written for a unit, which is read as this item
-abbrev pub unit_in : Layer → List ℕ → Item → List ℕ
-unit_in to unit (Carried u) = u
-unit_in to unit (TheSps header sps) = sps_unit header sps
-unit_in to unit (ThePps header pps) = pps_unit to pps.pic_parameter_set_id header pps
-unit_in to unit (TheSlice s) = slice_unit (slice_in to s)
+abbrev pub IsUnitIn : Layer → InitTable → ℕ → Item → List ℕ → Type 0
+IsUnitIn to init idc (Carried u) new = new ≡ u
+IsUnitIn to init idc (TheSps header sps) new = new ≡ sps_unit header sps
+IsUnitIn to init idc (ThePps header pps) new = new ≡ pps_unit to pps.pic_parameter_set_id header pps
+IsUnitIn to init idc (TheSlice s) new = IsSliceUnit init (slice_in to idc s) new
 
 -- the sets that are written stand for those that were read
 pub record Stand (to : Layer) (sets new : SetMaps) : Type 0 where
@@ -121,8 +116,8 @@ small_header (x ∷ u) h = h
 
 -- ## Sets
 
-pub sps-back : (to : Layer) (sets new : SetMaps) (u : List ℕ) (header : ℕ) (sps : Sps) → IsHeaded u → IsItem to sets u (TheSps header sps) → IsItem to new (sps_unit header sps) (TheSps header (without_constraints sps)) × Fits (sps_unit header sps)
-sps-back to sets new u header sps headed is =
+pub sps-back : (to : Layer) (init : InitTable) (sets new : SetMaps) (u : List ℕ) (header : ℕ) (sps : Sps) → IsHeaded u → IsItem to init sets u (TheSps header sps) → IsItem to init new (sps_unit header sps) (TheSps header (without_constraints sps)) × Fits (sps_unit header sps)
+sps-back to init sets new u header sps headed is =
     let fields = sps_unconstrained sps (text_of_read sps (bits_of is.0) is.3).0 in
     let bits = sps_text (without_constraints sps) in
     let small : header < 128 = subst (λ h. h < 128) (sym is.2) (small_header u headed) in
@@ -133,9 +128,9 @@ sps-back to sets new u header sps headed is =
 few : (pps : Pps) → IsPps pps → pps.pic_parameter_set_id < 256
 few pps is = omega (arith, is.fits.head.pic_parameter_set_id)
 
-pub pps-back : (to : Layer) (sets new : SetMaps) (u : List ℕ) (header : ℕ) (pps : Pps) → IsHeaded u → IsItem to sets u (ThePps header pps)
-    → IsItem to new (pps_unit to pps.pic_parameter_set_id header pps) (ThePps header (pps_in to pps.pic_parameter_set_id pps)) × Fits (pps_unit to pps.pic_parameter_set_id header pps)
-pps-back to sets new u header pps headed is =
+pub pps-back : (to : Layer) (init : InitTable) (sets new : SetMaps) (u : List ℕ) (header : ℕ) (pps : Pps) → IsHeaded u → IsItem to init sets u (ThePps header pps)
+    → IsItem to init new (pps_unit to pps.pic_parameter_set_id header pps) (ThePps header (pps_in to pps.pic_parameter_set_id pps)) × Fits (pps_unit to pps.pic_parameter_set_id header pps)
+pps-back to init sets new u header pps headed is =
     let fields = (pps_of_read pps (bits_of is.0) is.3).0 in
     let written = pps_in to pps.pic_parameter_set_id pps in
     let bits = pps_text written in
@@ -153,98 +148,102 @@ names-back to sets new n active h k = record {
   sps = h.sps active.pps.seq_parameter_set_id ∙ ap (option_map without_constraints) k.sps;
 }
 
-allowed-back : (n : ℕ) (active : Active) → IsAllowed active → IsAllowed (active_in Cavlc n (unconstrained active))
-allowed-back n active h = h
-
--- a column of I slices, or of cabac_init_idc 0
-small_column : (i : Bool) → (if i then 0 else 1) ≤ 3
-small_column true = omega arith
-small_column false = omega arith
-
--- what is written of macroblocks that can be written is a list that has a text, in the shape that is written: that of the
--- slice but for the column
-written_text : (shape : SliceShape) (column : ℕ) (mbs : List Mb) → HasText shape mbs → least_stop Cavlc shape mbs ≡ None → column ≤ 3 → HasText (record shape { column = column }) (map (written_mb Cavlc) mbs)
-written_text shape column mbs h goes_on few =
-    let kept = none_emptied Cavlc shape mbs goes_on in
-    lists_of_both shape (record shape { column = column }) (map (written_mb Cavlc) mbs) refl few record {
-      built = h.built;
-      slice = slice_written Cavlc shape mbs h.slice kept;
-      within = All-map (IsNotBeyond shape) (written_mb Cavlc) mbs (λ k d below. goes_within shape (get_or mbs k d) (all_go Cavlc shape 0 mbs goes_on k d below));
-    }
+allowed-back : (to : Layer) (n : ℕ) (active : Active) → IsAllowed active → IsAllowed (active_in to n (unconstrained active))
+allowed-back to n active h = h
 
 -- a slice's bits are whole bytes, of which the last one isn't 0
-pub slice_payload : (s : Slice) → IsPayload (slice_bits s)
-slice_payload s =
+pub slice_payload : (init : InitTable) (s : Slice) (bits : List Bool) → IsSliceBits init s bits → IsPayload bits
+slice_payload init s bits is =
     let text = header_text s.active s.header in
     let shape = shape_of s.active s.header in
-    let e = slice_stops shape (length text) s.mbs in
-    let bits = ap (λ b. text ++ b) e.3 ∙ sym (append_assoc text e.0 (true ∷ replicate e.1 false)) in
-    let whole : length (slice_bits s) % 8 ≡ 0 = ap (λ n. n % 8) (length-append text (slice_text shape (length text) s.mbs)) ∙ slice_fills shape (length text) s.mbs in
-    subst IsPayload (sym (whole_payload (text ++ e.0) (slice_bits s) e.1 bits e.2 whole)) (payload_ends (text ++ e.0))
+    let e = stops_in (layer_of s.active) init shape (length text) s.mbs is.slice_data is.data_are in
+    let whole : length (text ++ is.slice_data) % 8 ≡ 0 = ap (λ n. n % 8) (length-append text is.slice_data) ∙ fills_in (layer_of s.active) init shape (length text) s.mbs is.slice_data is.data_are in
+    let ends = ap (λ b. text ++ b) e.3 ∙ sym (append_assoc text e.0 (true ∷ replicate e.1 false)) in
+    let p = subst IsPayload (sym (whole_payload (text ++ e.0) (text ++ is.slice_data) e.1 ends e.2 whole)) (payload_ends (text ++ e.0)) in
+    subst IsPayload (sym is.bits_are) p
+
+pub one_slice_unit : (init : InitTable) (s : Slice) (first second : List ℕ) → IsSliceUnit init s first → IsSliceUnit init s second → first ≡ second
+one_slice_unit init s first second (a, is, e) (b, js, f) =
+    let text = header_text s.active s.header in
+    let same = one_normal_in (layer_of s.active) init (shape_of s.active s.header) (length text) s.mbs is.slice_data js.slice_data is.data_are js.data_are in
+    let bits : a ≡ b = is.bits_are ∙ ap (λ d. text ++ d) same ∙ sym js.bits_are in
+    e ∙ ap (λ x. s.header.nal ∷ escaped (bytes_of x)) bits ∙ sym f
 
 -- what stands behind a text of so many bits
 behind_text : (text rest : List Bool) → length (text ++ rest) - length rest ≡ length text
 behind_text text rest = omega (arith, length-append text rest)
 
-still_built : (mbaff wanted : Bool) → mbaff ≡ false → wanted ≡ false → (mbaff || (wanted || wanted)) ≡ false
-still_built false false e f = refl
-still_built true wanted e f = absurd cc
-still_built false true e f = absurd cc
-
--- what is written of a slice is one that isn't refused as not built
+-- a slice that isn't refused as not built for a layer isn't so when it is in it
 built-back : (to : Layer) (n idc : ℕ) (active : Active) (h : Header) → is_unbuilt to active h ≡ false → is_unbuilt to (active_in to n (unconstrained active)) (header_in to n idc h) ≡ false
-built-back to n idc active h e =
-    let f = fit to active h e in
-    still_built (is_mbaff active h) (mode_flag_of to) f.mbaff f.wanted
+built-back to n idc active h e = e
 
-slice-written : (sets new : SetMaps) (header : ℕ) (bits : List Bool) (s : Slice) → Stand Cavlc sets new → IsSliceOf Cavlc sets header bits s → slice_stop Cavlc s ≡ None
-    → (s.header.nal ≡ header) × IsSliceOf Cavlc new header (slice_bits (slice_in Cavlc s)) (slice_in Cavlc s)
-slice-written sets new header bits s stand is goes_on =
+-- the layer that the flag of a layer names
+layer_named : (to : Layer) → (if mode_flag_of to then Cabac else Cavlc) ≡ to
+layer_named Cavlc = refl
+layer_named Cabac = refl
+
+slice-written : (to : Layer) (init : InitTable) (idc : ℕ) (sets new : SetMaps) (header : ℕ) (bits written : List Bool) (s : Slice) → idc < 3 → Stand to sets new → IsSliceOf to init sets header bits s → slice_stop to s ≡ None
+    → IsSliceBits init (slice_in to idc s) written → (s.header.nal ≡ header) × IsSliceOf to init new header written (slice_in to idc s)
+slice-written to init idc sets new header bits written s small stand is goes_on put =
     let f = written_one sets header bits is.rest s.header is.header_is in
     let n = s.header.pic_parameter_set_id in
     let same = names-once sets n f.0 s.active f.1 is.names in
     let F : Active → Type 0 = λ a. HeaderFits a s.header in
-    let allowed = allowed-back n s.active (subst IsAllowed same f.2) in
-    let fits = moved (unconstrained s.active) s.header Cavlc n 0 (omega (arith, f.3.pic_parameter_set_id)) (omega arith) (in_range_unconstrained s.active s.header (subst F same f.3)) in
-    let names = names-back Cavlc sets new n s.active stand is.names in
-    let t = slice_in Cavlc s in
+    let allowed = allowed-back to n s.active (subst IsAllowed same f.2) in
+    let fits = moved (unconstrained s.active) s.header to n idc (omega (arith, f.3.pic_parameter_set_id)) small (in_range_unconstrained s.active s.header (subst F same f.3)) in
+    let names = names-back to sets new n s.active stand is.names in
+    let t = slice_in to idc s in
+    let shape = shape_of t.active t.header in
     let text = header_text t.active t.header in
-    let rest = slice_text (shape_of t.active t.header) (length text) t.mbs in
-    let spelled = header_again new t.active t.header rest names allowed fits in
-    let built = built-back Cavlc n 0 s.active s.header is.built in
-    let P : ℕ → Type 0 = λ nal. Spells (slice_header new nal) (text ++ rest) (Found t.header rest) in (
+    let spelled = header_again new t.active t.header put.slice_data names allowed fits in
+    let list = written_list (layer_of s.active) to (shape_of s.active s.header) shape s.mbs is.list (written_column to n idc s.active s.header small) (written_built to n idc s.active s.header is.built) goes_on in
+    let P : ℕ → List Bool → Type 0 = λ nal all. Spells (slice_header new nal) all (Found t.header put.slice_data) in
+    let H : ℕ → Type 0 = λ nal. P nal written in
+    let L : Layer → Type 0 = λ layer. HasDataIn layer shape t.mbs in
+    let again = normal_data_in (layer_of t.active) init shape (length text) t.mbs put.slice_data put.data_are in
+    let D : ℕ → Type 0 = λ k. IsDataIn (layer_of t.active) init shape k t.mbs put.slice_data in
+    let pos : length text ≡ length written - length put.slice_data = sym (ap (λ b. length b - length put.slice_data) put.bits_are ∙ behind_text text put.slice_data) in (
       f.4,
       record {
         names = names;
-        rest = rest;
-        header_is = subst P f.4 spelled;
-        built = built;
-        list = written_text (shape_of s.active s.header) (column_of t.header) s.mbs is.list goes_on (small_column (is_i s.header.slice_type));
-        rest_is = ap (λ k. slice_text (shape_of t.active t.header) k t.mbs) (sym (behind_text text rest));
+        rest = put.slice_data;
+        header_is = subst H f.4 (subst (P t.header.nal) (sym put.bits_are) spelled);
+        built = built-back to n idc s.active s.header is.built;
+        list = subst L (sym (layer_named to)) list;
+        data_are = subst D pos again;
       },
     )
 
-pub slice-back : (to : Layer) (sets new : SetMaps) (u : List ℕ) (s : Slice) → Stand to sets new → IsHeaded u → IsItem to sets u (TheSlice s) → slice_stop to s ≡ None
-    → IsItem to new (slice_unit (slice_in to s)) (TheSlice (slice_in to s)) × Fits (slice_unit (slice_in to s))
-slice-back Cavlc sets new u s stand headed is goes_on =
-    let k = slice-written sets new (header_of u) (bits_of is.0) s stand is.2 goes_on in
-    let t = slice_in Cavlc s in
+pub slice-back : (to : Layer) (init : InitTable) (idc : ℕ) (sets new : SetMaps) (u unit : List ℕ) (s : Slice) → idc < 3 → Stand to sets new → IsHeaded u → IsItem to init sets u (TheSlice s) → slice_stop to s ≡ None → IsSliceUnit init (slice_in to idc s) unit
+    → IsItem to init new unit (TheSlice (slice_in to idc s)) × Fits unit
+slice-back to init idc sets new u unit s few_idc stand headed is goes_on (bits, put, unit_is) =
+    let k = slice-written to init idc sets new (header_of u) (bits_of is.0) bits s few_idc stand is.2 goes_on put in
+    let t = slice_in to idc s in
     let small : t.header.nal < 128 = subst (λ h. h < 128) (sym k.0) (small_header u headed) in
     let some : t.header.nal ≢ 0 = λ e. some_header u IsSlice is.1.0 (λ x. cc) (sym k.0 ∙ e) in
-    let w = writes t.header.nal (slice_bits t) small some (slice_payload t) in
-    let P : ℕ → List Bool → Type 0 = λ nal bits. IsSliceOf Cavlc new nal bits t in
-    let H : ℕ → Type 0 = λ nal. P nal (slice_bits t) in
-    ((bytes_of (slice_bits t), (ap (λ h. kind_of_type (h % 32)) k.0 ∙ is.1.0, w.escape), subst (P t.header.nal) (sym w.bits_are) (subst H (sym k.0) k.1)), w.fits)
-slice-back Cabac sets new u s stand headed is goes_on = absurd (let wanted : true ≡ false = (fit Cabac s.active s.header is.2.built).wanted in cc)
+    let w = writes t.header.nal bits small some (slice_payload init t bits put) in
+    let P : ℕ → List Bool → Type 0 = λ nal bits. IsSliceOf to init new nal bits t in
+    let H : ℕ → Type 0 = λ nal. P nal bits in
+    let U : List ℕ → Type 0 = λ x. IsItem to init new x (TheSlice t) × Fits x in
+    subst U (sym unit_is) ((bytes_of bits, (ap (λ h. kind_of_type (h % 32)) k.0 ∙ is.1.0, w.escape), subst (P t.header.nal) (sym w.bits_are) (subst H (sym k.0) k.1)), w.fits)
 
 -- ## Any item
 
-pub item-back : (to : Layer) (sets new : SetMaps) (u : List ℕ) (i : Item) → Stand to sets new → Fits u → IsItem to sets u i → IsWritable to i
-    → IsItem to new (unit_in to u i) (item_in to i) × Fits (unit_in to u i) × Stand to (put i sets) (put (item_in to i) new)
-item-back to sets new u (Carried v) stand fits is can =
+pub item-back : (to : Layer) (init : InitTable) (idc : ℕ) (sets new : SetMaps) (u unit : List ℕ) (i : Item) → idc < 3 → Stand to sets new → Fits u → IsItem to init sets u i → IsWritable to i → IsUnitIn to init idc i unit
+    → IsItem to init new unit (item_in to idc i) × Fits unit × Stand to (put i sets) (put (item_in to idc i) new)
+item-back to init idc sets new u unit (Carried v) few stand fits is can written =
     let F : List ℕ → Type 0 = Fits in
     let P : List ℕ → Type 0 = λ w. IsUnit IsCarried is.0 w in
-    ((is.0, subst P (sym is.2) is.1, refl), subst F (sym is.2) fits, stand)
-item-back to sets new u (TheSps header sps) stand fits is can = let b = sps-back to sets new u header sps fits.headed is in (b.0, b.1, stand-put_sps to sets new sps stand)
-item-back to sets new u (ThePps header pps) stand fits is can = let b = pps-back to sets new u header pps fits.headed is in (b.0, b.1, stand-put_pps to sets new pps stand)
-item-back to sets new u (TheSlice s) stand fits is can = let b = slice-back to sets new u s stand fits.headed is can in (b.0, b.1, stand)
+    let U : List ℕ → Type 0 = λ w. IsItem to init new w (Carried v) × Fits w × Stand to sets new in
+    subst U (sym written) ((is.0, subst P (sym is.2) is.1, refl), subst F (sym is.2) fits, stand)
+item-back to init idc sets new u unit (TheSps header sps) few stand fits is can written =
+    let b = sps-back to init sets new u header sps fits.headed is in
+    let U : List ℕ → Type 0 = λ w. IsItem to init new w (TheSps header (without_constraints sps)) × Fits w in
+    let c = subst U (sym written) b in
+    (c.0, c.1, stand-put_sps to sets new sps stand)
+item-back to init idc sets new u unit (ThePps header pps) few stand fits is can written =
+    let b = pps-back to init sets new u header pps fits.headed is in
+    let U : List ℕ → Type 0 = λ w. IsItem to init new w (ThePps header (pps_in to pps.pic_parameter_set_id pps)) × Fits w in
+    let c = subst U (sym written) b in
+    (c.0, c.1, stand-put_pps to sets new pps stand)
+item-back to init idc sets new u unit (TheSlice s) few stand fits is can written = let b = slice-back to init idc sets new u unit s few stand fits.headed is can written in (b.0, b.1, stand)

@@ -1,5 +1,7 @@
+mod Layers
 pub mod Normal
 pub mod Stops
+pub mod WrittenLists
 pub mod Slices
 pub mod Reasons
 pub mod Judging

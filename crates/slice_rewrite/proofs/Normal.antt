@@ -1,6 +1,6 @@
 -- Macroblocks in their written form.
 use Rattle.std.proofs.Common.{◌≡◌, ◌≢◌, ℕ, zero, suc, ◌+◌, ◌*◌, ◌/◌, ◌<◌, ℤ, pos, Bool, true, false, not, ◌&&◌, List, [], ◌∷◌, ◌++◌, length, get_or, map, Option, Some, None, refl, sym, ap, subst, ◌∙◌, arith, append-nil, length-append}
-use Rattle.std.specs.Prelude.{◌↔◌, IsTrue, All, ◌==◌, if◌then◌else◌}
+use Rattle.std.specs.Prelude.{◌↔◌, IsTrue, All, ◌==◌, ◌||◌, if◌then◌else◌}
 use Rattle.std.specs.Int.{bit_at}
 use Rattle.std.specs.Ordering.{int_eq}
 use Rattle.std.proofs.lemmas.Bool.{eqb-true}
@@ -16,21 +16,25 @@ use Rattle.h264_types.specs.declared.macroblock.MbKind.TheVariants.{Skip, Intra,
 use Rattle.h264_types.specs.declared.macroblock.Pattern.{Pattern}
 use Rattle.h264_types.specs.declared.slice_shape.SliceShape.{SliceShape}
 use Rattle.cavlc_mb_residual.proofs.ResidualValid.{beyond_normal}
+use Rattle.h264_types.proofs.KindLaws.{no_16x16, other_pattern}
 use Rattle.h264_types.specs.Kind.{is_inter}
-use Rattle.h264_types.specs.Sent.{sends_pattern}
+use Rattle.cabac_contexts.specs.Terms.{has_luma}
+use Rattle.cabac_mb_residual.specs.Levels.{IsResidual}
+use Rattle.h264_types.specs.Sent.{sends_pattern, sends_t8}
 use Rattle.h264_types.specs.Macroblock.{quarter_of, pattern_of}
 use Rattle.h264_types.specs.Slice.{left_number, above_number, field_at, skipped_at, pair_field, inferred_field}
 use Rattle.h264_types.specs.Valid.{is_ref0, luma_bound, IsListSent, IsMacroblock, IsPair, IsSlice, IsWithin}
-use Rattle.pattern_fix.specs.NormalPattern.{IsEmptied, normal, normal_luma}
-use Rattle.pattern_fix.proofs.NormalLaws.{normal-normal}
+use Rattle.pattern_fix.specs.NormalPattern.{IsEmptied, all_zero, normal, normal_luma}
+use Rattle.pattern_fix.proofs.NormalLaws.{normal-level, normal-normal}
 use Rattle.pattern_fix.proofs.ValidLaws.{valid-normal}
 use Rattle.slice_rewrite.specs.Stops.{is_emptied}
 use Rattle.slice_data.specs.WrittenForm.{has_ref0, written_mb}
 
 -- ## One macroblock
 
-pub written-written : (to : Layer) (mb : Mb) → written_mb to (written_mb to mb) ≡ written_mb to mb
-written-written to mb = ap (λ (m : Mb). let v : Mb = record m { ref0 = has_ref0 to && is_ref0 mb } in v) (normal-normal mb)
+-- the form that is written in a layer is that of the form in any layer
+pub written-written : (to other : Layer) (mb : Mb) → written_mb to (written_mb other mb) ≡ written_mb to mb
+written-written to other mb = ap (λ (m : Mb). let v : Mb = record m { ref0 = has_ref0 to && is_ref0 mb } in v) (normal-normal mb)
 
 -- a macroblock in normal form, with the test of its reference indices, is the written one
 pub same_written : (to : Layer) (old now : Mb) (b : Bool) → now ≡ normal old → b ≡ (has_ref0 to && is_ref0 now) → (let v : Mb = record now { ref0 = b } in v) ≡ written_mb to old
@@ -105,6 +109,43 @@ normal_is_within shape bound mb sizes is kept within =
 
 pub written_is_within : (to : Layer) (shape : SliceShape) (bound : ℕ) (mb : Mb) → HasSizes mb → IsMacroblock shape mb → (IsEmptied mb → ⊥) → is_beyond_mb bound mb ≡ false → is_beyond_mb bound (written_mb to mb) ≡ false
 written_is_within to shape bound mb sizes is kept within = normal_is_within shape bound mb sizes is kept within
+
+-- ## The levels in CABAC
+
+-- the pattern of a macroblock with the 8x8 transform is sent
+pattern_of-t8 : (shape : SliceShape) (mb : Mb) → IsTrue (sends_t8 shape mb) → pattern_of mb ≡ mb.pattern
+pattern_of-t8 shape mb sent = by mb.kind sent
+  where
+    by : (kind : MbKind) → IsTrue (sends_t8 shape (record mb { kind = kind })) → pattern_of (record mb { kind = kind }) ≡ mb.pattern
+    by Skip h = refl
+    by (PKind n) h = refl
+    by (BKind n) h = refl
+    by (Intra n) h = other_pattern mb (Intra n) (no_16x16 (Intra n) (first_place shape.t8_mode (n == 0) (mb.pattern.luma == 0) h))
+      where
+        first_place : (mode nxn none : Bool) → IsTrue ((mode && nxn) || (mode && (not none && false))) → nxn ≡ true
+        first_place mode true none h = refl
+        first_place false false none h = absurd cc
+        first_place true false true h = absurd cc
+        first_place true false false h = absurd cc
+
+-- so that in normal form its bit stands for a level other than 0
+bit_stands : (shape : SliceShape) (mb : Mb) → IsMacroblock shape (normal mb) → (q : ℕ) → q < 4 → (normal mb).t8 ≡ true → has_luma (normal mb) q ≡ true → all_zero (quarter_of mb q) ≡ false
+bit_stands shape mb is q below t8 has =
+    let bit : bit_at (pattern_of (normal mb)).luma q ≡ 1 = eqb-true (bit_at (pattern_of (normal mb)).luma q) 1 has in
+    normal-level (normal mb) q below (normal-normal mb) t8 (ap (λ (p : Pattern). bit_at p.luma q) (sym (pattern_of-t8 shape (normal mb) (is.typed.t8 t8))) ∙ bit)
+
+-- what is written of a macroblock of a slice has bins
+pub written_residual : (to : Layer) (shape : SliceShape) (mb : Mb) → IsMacroblock shape mb → (IsEmptied mb → ⊥) → IsResidual (written_mb to mb)
+written_residual to shape mb is kept =
+    let written = written_valid to shape mb is kept in
+    record {
+      luma = written.coded.luma;
+      chroma = written.coded.chroma;
+      some = λ q below t8 has zeros. not_both (all_zero (quarter_of mb q)) (ap all_zero zeros) (bit_stands shape mb (valid-normal shape mb is kept) q below t8 has);
+    }
+  where
+    not_both : (b : Bool) → b ≡ true → b ≡ false → ⊥
+    not_both b e f = let clash : true ≡ false = sym e ∙ f in cc
 
 -- ## The test of an emptied macroblock
 

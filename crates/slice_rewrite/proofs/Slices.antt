@@ -1,17 +1,16 @@
 -- The payload of a slice unit is one slice, or is refused for one reason.
-use Rattle.std.proofs.Common.{◌≡◌, ◌⊎◌, inl, inr, ℕ, ◌-◌, List, length, Bool, true, false, Some, refl, sym, ap, subst, ◌∙◌}
-use Rattle.std.specs.Prelude.{◌||◌}
+use Rattle.std.proofs.Common.{◌≡◌, ◌⊎◌, inl, inr, ℕ, ◌+◌, ◌-◌, ◌<◌, ◌≤◌, List, length, Bool, true, false, Some, refl, sym, ap, subst, ◌∙◌, arith}
+use Rattle.std.specs.Prelude.{◌&&◌, not, if◌then◌else◌}
 use Rattle.bit_texts.proofs.Inverting.{some_is}
-use Rattle.cavlc_syntax.specs.SliceText.{IsBuilt, IsBuiltShape, HasText, slice_text, NoList}
-use Rattle.cavlc_syntax.proofs.Decided.{decided}
-use Rattle.cavlc_syntax.proofs.Texts.{one_list}
 use Rattle.exp_golomb.specs.Syntax.{Syntax, Outcome, Found, Refused, NoText, Spells, outcome_of}
 use Rattle.exp_golomb.proofs.Syntaxes.{one_outcome, spelled}
 use Rattle.h264_types.specs.declared.fault.Why.{Why}
 use Rattle.h264_types.specs.declared.fault.Why.TheVariants.{Unbuilt, Header as BadHeader, Slice as BadSlice}
 use Rattle.h264_types.specs.declared.layer.Layer.{Layer}
+use Rattle.h264_types.specs.declared.layer.Layer.TheVariants.{Cavlc, Cabac}
 use Rattle.h264_types.specs.declared.macroblock.Mb.{Mb}
 use Rattle.h264_types.specs.declared.slice_shape.SliceShape.{SliceShape}
+use Rattle.init_table.specs.declared.table.InitTable.{InitTable}
 use Rattle.param_sets.proofs.SetLaws.{nothing_spelled}
 use Rattle.param_sets.proofs.Spelled.{same_found}
 use Rattle.param_sets.specs.PpsCodes.{mode_flag_of}
@@ -19,14 +18,18 @@ use Rattle.param_sets.specs.Sets.{SetMaps, find_sps}
 use Rattle.param_sets.specs.SpsCodes.{IsSps}
 use Rattle.param_sets.specs.declared.pps.Pps.{Pps}
 use Rattle.param_sets.specs.declared.sps.Sps.{Sps}
-use Rattle.slice_header.specs.HeaderCodes.{HeaderFits, IsAllowed, Names}
+use Rattle.slice_header.specs.HeaderCodes.{HeaderFits, IsAllowed, Names, active_in, header_in, unconstrained}
 use Rattle.header_parts.specs.Refusal.{Refusal}
-use Rattle.slice_header.specs.Shape.{is_mbaff, shape_of}
+use Rattle.header_parts.specs.SliceTypes.{is_i}
+use Rattle.slice_header.specs.Shape.{shape_of}
 use Rattle.header_parts.specs.ActiveSets.{Active}
 use Rattle.slice_header.specs.SliceHeader.{slice_header}
 use Rattle.header_parts.specs.declared.header.Header.{Header}
 use Rattle.slice_header.proofs.HeaderLaws.{written_one, shape_fits}
+use Rattle.slice_rewrite.specs.Layers.{layer_of, HasDataIn, IsDataIn, IsBuiltIn}
+use Rattle.slice_rewrite.proofs.Layers.{IsBuiltShapeIn, DecidedIn, built_shape_in, one_list_in, decided_in}
 use Rattle.slice_rewrite.specs.Items.{Slice, is_unbuilt, IsSliceOf}
+use Rattle.slice_rewrite.specs.SliceForms.{IsOtherColumn}
 use Rattle.slice_rewrite.specs.Verdict.{why_of_header, IsNoText, IsNoData, HasNoData, IsNoSlice}
 
 -- ## One slice
@@ -39,27 +42,28 @@ names-once sets n a b h k =
     ap (λ x. let c : Active = record { sps = x; pps = a.pps } in c) s ∙ ap (λ x. let c : Active = record { sps = b.sps; pps = x } in c) p
 
 -- headers found in the same bits, and what follows them
-pub header-once : (to : Layer) (sets : SetMaps) (header : ℕ) (bits : List Bool) (h k : Header) (rest after : List Bool) →
+pub header-once : (sets : SetMaps) (header : ℕ) (bits : List Bool) (h k : Header) (rest after : List Bool) →
     Spells (slice_header sets header) bits (Found h rest) → Spells (slice_header sets header) bits (Found k after) → (h ≡ k) × (rest ≡ after)
-header-once to sets header bits h k rest after a b =
+header-once sets header bits h k rest after a b =
     same_found h k rest after (Found h rest) refl (one_outcome (slice_header sets header) bits (Found h rest) (Found k after) a b)
 
-mbs-once : (h k : Header) (a b : Active) (n : ℕ) (rest after : List Bool) (ms ns : List Mb) → h ≡ k → a ≡ b → rest ≡ after → HasText (shape_of a h) ms → HasText (shape_of b k) ns
-    → rest ≡ slice_text (shape_of a h) (n - length rest) ms → after ≡ slice_text (shape_of b k) (n - length after) ns → ms ≡ ns
-mbs-once h k a b n rest after ms ns e f g has has' is is' =
-    let S : Header × Active → Type 0 = λ x. HasText (shape_of x.1 x.0) ms in
-    let same : shape_of a h ≡ shape_of b k = ap (λ x. shape_of a x) e ∙ ap (λ x. shape_of x k) f in
-    let P : SliceShape → Type 0 = λ s. HasText s ms in
-    let Q : SliceShape → Type 0 = λ s. rest ≡ slice_text s (n - length rest) ms in
-    let R : List Bool → Type 0 = λ r. r ≡ slice_text (shape_of b k) (n - length r) ms in
-    one_list (shape_of b k) (n - length after) ms ns (subst P same has) has' (sym (subst R g (subst Q same is)) ∙ is')
+mbs-once : (init : InitTable) (h k : Header) (a b : Active) (n : ℕ) (rest after : List Bool) (ms ns : List Mb) → h ≡ k → a ≡ b → rest ≡ after → HasDataIn (layer_of a) (shape_of a h) ms → HasDataIn (layer_of b) (shape_of b k) ns
+    → IsDataIn (layer_of a) init (shape_of a h) (n - length rest) ms rest → IsDataIn (layer_of b) init (shape_of b k) (n - length after) ns after → ms ≡ ns
+mbs-once init h k a b n rest after ms ns e f g has has' is is' =
+    let H : Header → Type 0 = λ x. HasDataIn (layer_of a) (shape_of a x) ms in
+    let A : Active → Type 0 = λ x. HasDataIn (layer_of x) (shape_of x k) ms in
+    let P : Header → Type 0 = λ x. IsDataIn (layer_of a) init (shape_of a x) (n - length rest) ms rest in
+    let Q : Active → Type 0 = λ x. IsDataIn (layer_of x) init (shape_of x k) (n - length rest) ms rest in
+    let R : List Bool → Type 0 = λ r. IsDataIn (layer_of b) init (shape_of b k) (n - length r) ms r in
+    one_list_in (layer_of b) init (shape_of b k) (n - length after) ms ns after (subst A f (subst H e has)) has' (subst R g (subst Q f (subst P e is))) is'
 
-pub slice-once : (to : Layer) (sets : SetMaps) (header : ℕ) (bits : List Bool) (s t : Slice) → IsSliceOf to sets header bits s → IsSliceOf to sets header bits t → s ≡ t
-slice-once to sets header bits s t is js =
-    let f = header-once to sets header bits s.header t.header is.rest js.rest is.header_is js.header_is in
+-- whichever layers it is read for
+pub slice-once : (to other : Layer) (init : InitTable) (sets : SetMaps) (header : ℕ) (bits : List Bool) (s t : Slice) → IsSliceOf to init sets header bits s → IsSliceOf other init sets header bits t → s ≡ t
+slice-once to other init sets header bits s t is js =
+    let f = header-once sets header bits s.header t.header is.rest js.rest is.header_is js.header_is in
     let N : Header → Type 0 = λ x. Names sets x.pic_parameter_set_id s.active in
     let a = names-once sets t.header.pic_parameter_set_id s.active t.active (subst N f.0 is.names) js.names in
-    let m = mbs-once s.header t.header s.active t.active (length bits) is.rest js.rest s.mbs t.mbs f.0 a f.1 is.list js.list is.rest_is js.rest_is in
+    let m = mbs-once init s.header t.header s.active t.active (length bits) is.rest js.rest s.mbs t.mbs f.0 a f.1 is.list js.list is.data_are js.data_are in
     ap (λ x. let c : Slice = record { header = x; active = s.active; mbs = s.mbs } in c) f.0
     ∙ ap (λ x. let c : Slice = record { header = t.header; active = x; mbs = s.mbs } in c) a
     ∙ ap (λ x. let c : Slice = record { header = t.header; active = t.active; mbs = x } in c) m
@@ -82,46 +86,47 @@ pub no_text-found : {E A : Type 0} (named : E → Why) (none : Why) (syntax : Sy
 no_text-found named none syntax bits why value rest (inl a) t = a.1 (Found value rest) t
 no_text-found named none syntax bits why value rest (inr a) t = let same = one_outcome syntax bits (Refused a.0) (Found value rest) a.2 t in cc
 
-data-once : (unbuilt : Bool) (shape : SliceShape) (pos : ℕ) (rest : List Bool) (v w : Why) → IsNoData unbuilt shape pos rest v → IsNoData unbuilt shape pos rest w → v ≡ w
-data-once true shape pos rest v w a b = a ∙ sym b
-data-once false shape pos rest v w a b = a.0 ∙ sym b.0
+data-once : (unbuilt : Bool) (layer : Layer) (init : InitTable) (shape : SliceShape) (pos : ℕ) (rest : List Bool) (v w : Why) → IsNoData unbuilt layer init shape pos rest v → IsNoData unbuilt layer init shape pos rest w → v ≡ w
+data-once true layer init shape pos rest v w a b = a ∙ sym b
+data-once false layer init shape pos rest v w a b = a.0 ∙ sym b.0
 
 -- what is refused behind one header is refused behind the same one
-data-moved : (to : Layer) (h k : Header) (a b : Active) (n : ℕ) (rest after : List Bool) (why : Why) → h ≡ k → a ≡ b → rest ≡ after → IsNoData (is_unbuilt to a h) (shape_of a h) (n - length rest) rest why
-    → IsNoData (is_unbuilt to b k) (shape_of b k) (n - length after) after why
-data-moved to h k a b n rest after why e f g none =
-    let P : Header → Type 0 = λ x. IsNoData (is_unbuilt to a x) (shape_of a x) (n - length rest) rest why in
-    let Q : Active → Type 0 = λ x. IsNoData (is_unbuilt to x k) (shape_of x k) (n - length rest) rest why in
-    let R : List Bool → Type 0 = λ x. IsNoData (is_unbuilt to b k) (shape_of b k) (n - length x) x why in
+data-moved : (to : Layer) (init : InitTable) (h k : Header) (a b : Active) (n : ℕ) (rest after : List Bool) (why : Why) → h ≡ k → a ≡ b → rest ≡ after → IsNoData (is_unbuilt to a h) (layer_of a) init (shape_of a h) (n - length rest) rest why
+    → IsNoData (is_unbuilt to b k) (layer_of b) init (shape_of b k) (n - length after) after why
+data-moved to init h k a b n rest after why e f g none =
+    let P : Header → Type 0 = λ x. IsNoData (is_unbuilt to a x) (layer_of a) init (shape_of a x) (n - length rest) rest why in
+    let Q : Active → Type 0 = λ x. IsNoData (is_unbuilt to x k) (layer_of x) init (shape_of x k) (n - length rest) rest why in
+    let R : List Bool → Type 0 = λ x. IsNoData (is_unbuilt to b k) (layer_of b) init (shape_of b k) (n - length x) x why in
     subst R g (subst Q f (subst P e none))
 
-no_data-once : (to : Layer) (sets : SetMaps) (header : ℕ) (bits : List Bool) (v w : Why) → HasNoData to sets header bits v → HasNoData to sets header bits w → v ≡ w
-no_data-once to sets header bits v w a b =
-    let f = header-once to sets header bits a.h b.h a.rest b.rest a.header_is b.header_is in
+no_data-once : (to : Layer) (init : InitTable) (sets : SetMaps) (header : ℕ) (bits : List Bool) (v w : Why) → HasNoData to init sets header bits v → HasNoData to init sets header bits w → v ≡ w
+no_data-once to init sets header bits v w a b =
+    let f = header-once sets header bits a.h b.h a.rest b.rest a.header_is b.header_is in
     let N : Header → Type 0 = λ x. Names sets x.pic_parameter_set_id a.active in
     let g = names-once sets b.h.pic_parameter_set_id a.active b.active (subst N f.0 a.names) b.names in
-    data-once (is_unbuilt to b.active b.h) (shape_of b.active b.h) (length bits - length b.rest) b.rest v w (data-moved to a.h b.h a.active b.active (length bits) a.rest b.rest v f.0 g f.1 a.none) b.none
+    data-once (is_unbuilt to b.active b.h) (layer_of b.active) init (shape_of b.active b.h) (length bits - length b.rest) b.rest v w (data-moved to init a.h b.h a.active b.active (length bits) a.rest b.rest v f.0 g f.1 a.none) b.none
 
-pub no_slice-once : (to : Layer) (sets : SetMaps) (header : ℕ) (bits : List Bool) (v w : Why) → IsNoSlice to sets header bits v → IsNoSlice to sets header bits w → v ≡ w
-no_slice-once to sets header bits v w (inl a) (inl b) =
+pub no_slice-once : (to : Layer) (init : InitTable) (sets : SetMaps) (header : ℕ) (bits : List Bool) (v w : Why) → IsNoSlice to init sets header bits v → IsNoSlice to init sets header bits w → v ≡ w
+no_slice-once to init sets header bits v w (inl a) (inl b) =
     no_text-once why_of_header BadHeader (slice_header sets header) bits v w a b
-no_slice-once to sets header bits v w (inl a) (inr b) = absurd (no_text-found why_of_header BadHeader (slice_header sets header) bits v b.h b.rest a b.header_is)
-no_slice-once to sets header bits v w (inr a) (inl b) = absurd (no_text-found why_of_header BadHeader (slice_header sets header) bits w a.h a.rest b a.header_is)
-no_slice-once to sets header bits v w (inr a) (inr b) = no_data-once to sets header bits v w a b
+no_slice-once to init sets header bits v w (inl a) (inr b) = absurd (no_text-found why_of_header BadHeader (slice_header sets header) bits v b.h b.rest a b.header_is)
+no_slice-once to init sets header bits v w (inr a) (inl b) = absurd (no_text-found why_of_header BadHeader (slice_header sets header) bits w a.h a.rest b a.header_is)
+no_slice-once to init sets header bits v w (inr a) (inr b) = no_data-once to init sets header bits v w a b
 
 -- data of a slice are not refused
-data-not_refused : (unbuilt : Bool) (shape : SliceShape) (pos : ℕ) (rest : List Bool) (why : Why) (mbs : List Mb) → unbuilt ≡ false → HasText shape mbs → rest ≡ slice_text shape pos mbs → IsNoData unbuilt shape pos rest why → ⊥
-data-not_refused false shape pos rest why mbs built has is none = none.1 mbs has is
-data-not_refused true shape pos rest why mbs built has is none = absurd cc
+data-not_refused : (unbuilt : Bool) (layer : Layer) (init : InitTable) (shape : SliceShape) (pos : ℕ) (rest : List Bool) (why : Why) (mbs : List Mb) → unbuilt ≡ false → HasDataIn layer shape mbs → IsDataIn layer init shape pos mbs rest
+    → IsNoData unbuilt layer init shape pos rest why → ⊥
+data-not_refused false layer init shape pos rest why mbs built has is none = none.1 mbs has is
+data-not_refused true layer init shape pos rest why mbs built has is none = absurd cc
 
-pub slice-not_refused : (to : Layer) (sets : SetMaps) (header : ℕ) (bits : List Bool) (s : Slice) (why : Why) → IsSliceOf to sets header bits s → IsNoSlice to sets header bits why → ⊥
-slice-not_refused to sets header bits s why is (inl a) = no_text-found why_of_header BadHeader (slice_header sets header) bits why s.header is.rest a is.header_is
-slice-not_refused to sets header bits s why is (inr a) =
-    let f = header-once to sets header bits a.h s.header a.rest is.rest a.header_is is.header_is in
+pub slice-not_refused : (to : Layer) (init : InitTable) (sets : SetMaps) (header : ℕ) (bits : List Bool) (s : Slice) (why : Why) → IsSliceOf to init sets header bits s → IsNoSlice to init sets header bits why → ⊥
+slice-not_refused to init sets header bits s why is (inl a) = no_text-found why_of_header BadHeader (slice_header sets header) bits why s.header is.rest a is.header_is
+slice-not_refused to init sets header bits s why is (inr a) =
+    let f = header-once sets header bits a.h s.header a.rest is.rest a.header_is is.header_is in
     let N : Header → Type 0 = λ x. Names sets x.pic_parameter_set_id a.active in
     let g = names-once sets s.header.pic_parameter_set_id a.active s.active (subst N f.0 a.names) is.names in
-    data-not_refused (is_unbuilt to s.active s.header) (shape_of s.active s.header) (length bits - length is.rest) is.rest why s.mbs is.built is.list is.rest_is
-    (data-moved to a.h s.header a.active s.active (length bits) a.rest is.rest why f.0 g f.1 a.none)
+    data-not_refused (is_unbuilt to s.active s.header) (layer_of s.active) init (shape_of s.active s.header) (length bits - length is.rest) is.rest why s.mbs is.built is.list is.data_are
+    (data-moved to init a.h s.header a.active s.active (length bits) a.rest is.rest why f.0 g f.1 a.none)
 
 -- ## Each payload is decided
 
@@ -129,7 +134,7 @@ slice-not_refused to sets header bits s why is (inr a) =
 abbrev pub AreInRange : SetMaps → Type 0
 AreInRange sets = (n : ℕ) (sps : Sps) → find_sps n sets ≡ Some sps → IsSps sps
 
--- the elements of a header in CAVLC, under the sets that it names
+-- the elements of a header, under the sets that it names
 pub record FoundHeader (sets : SetMaps) (h : Header) : Type 0 where
   pub active : Active
   pub names : Names sets h.pic_parameter_set_id active
@@ -142,73 +147,73 @@ header-found sets header bits rest h text =
     record { active = f.0; names = f.1; allowed = f.2; fits = f.3 }
 
 -- the header byte stands in the header
-pub slice-nal : (to : Layer) (sets : SetMaps) (header : ℕ) (bits : List Bool) (s : Slice) → IsSliceOf to sets header bits s → s.header.nal ≡ header
-slice-nal to sets header bits s is = (written_one sets header bits is.rest s.header is.header_is).4
+pub slice-nal : (to : Layer) (init : InitTable) (sets : SetMaps) (header : ℕ) (bits : List Bool) (s : Slice) → IsSliceOf to init sets header bits s → s.header.nal ≡ header
+slice-nal to init sets header bits s is = (written_one sets header bits is.rest s.header is.header_is).4
 
 -- ## Slices that are built
 
-neither : (a b : Bool) → (a || b) ≡ false → (a ≡ false) × (b ≡ false)
-neither true b e = absurd cc
-neither false b e = (refl, e)
-
--- the parts of the test: MBAFF, the layer of the slice, and the wanted layer
-pub record IsFit (to : Layer) (active : Active) (h : Header) : Type 0 where
-  pub mbaff : is_mbaff active h ≡ false
-  pub layer : active.pps.entropy_coding_mode_flag ≡ false
-  pub wanted : mode_flag_of to ≡ false
-
-pub fit : (to : Layer) (active : Active) (h : Header) → is_unbuilt to active h ≡ false → IsFit to active h
-fit to active h e =
-    let a = neither (is_mbaff active h) (active.pps.entropy_coding_mode_flag || mode_flag_of to) e in
-    let b = neither active.pps.entropy_coding_mode_flag (mode_flag_of to) a.1 in
-    record { mbaff = a.0; layer = b.0; wanted = b.1 }
+pub built_layer : (layer : Layer) (shape : SliceShape) → shape.mbaff ≡ false → IsBuiltIn layer shape
+built_layer Cavlc shape mbaff = record { mbaff = mbaff }
+built_layer Cabac shape mbaff = record { mbaff = mbaff }
 
 -- the data of a slice that isn't refused so are read and written
-pub not_unbuilt : (to : Layer) (active : Active) (h : Header) → is_unbuilt to active h ≡ false → IsBuilt (shape_of active h)
-not_unbuilt to active h e =
-    let f = fit to active h e in
-    record { mbaff = f.mbaff }
+pub not_unbuilt : (to : Layer) (active : Active) (h : Header) → is_unbuilt to active h ≡ false → IsBuiltIn (layer_of active) (shape_of active h)
+not_unbuilt to active h e = built_layer (layer_of active) (shape_of active h) e
 
-pub built_shape : (active : Active) (h : Header) → IsSps active.sps → HeaderFits active h → IsBuilt (shape_of active h) → IsBuiltShape (shape_of active h)
-built_shape active h sps fits built = record { is_shape = shape_fits active h sps fits; built = built }
+-- and so are those of the shape in which it is written, in the wanted layer
+pub written_built : (to : Layer) (number idc : ℕ) (active : Active) (h : Header) → is_unbuilt to active h ≡ false → IsBuiltIn to (shape_of (active_in to number (unconstrained active)) (header_in to number idc h))
+written_built to number idc active h e = built_layer to (shape_of (active_in to number (unconstrained active)) (header_in to number idc h)) e
 
-pub built_under : (to : Layer) (active : Active) (h : Header) → IsSps active.sps → HeaderFits active h → is_unbuilt to active h ≡ false → IsBuiltShape (shape_of active h)
-built_under to active h sps fits e = built_shape active h sps fits (not_unbuilt to active h e)
+-- a column of I slices, or of a cabac_init_idc that stands
+small_column : (i stands : Bool) (idc : ℕ) → idc < 3 → (if i then 0 else (if stands then idc else 0) + 1) ≤ 3
+small_column true stands idc few = omega arith
+small_column false true idc few = omega (arith, few)
+small_column false false idc few = omega arith
 
-abbrev pub DecidedSlice : Layer → SetMaps → ℕ → List Bool → Type 0
-DecidedSlice to sets header bits = ((s : Slice) × IsSliceOf to sets header bits s) ⊎ ((why : Why) × IsNoSlice to sets header bits why)
+-- the shape in which a slice is written is its own but for the column
+pub written_column : (to : Layer) (number idc : ℕ) (active : Active) (h : Header) → idc < 3 → IsOtherColumn (shape_of active h) (shape_of (active_in to number (unconstrained active)) (header_in to number idc h))
+written_column to number idc active h few = record { same = refl; column = small_column (is_i h.slice_type) (mode_flag_of to && not (is_i h.slice_type)) idc few }
+
+pub built_shape : (layer : Layer) (active : Active) (h : Header) → IsSps active.sps → HeaderFits active h → IsBuiltIn layer (shape_of active h) → IsBuiltShapeIn layer (shape_of active h)
+built_shape layer active h sps fits built = built_shape_in layer (shape_of active h) (shape_fits active h sps fits) built
+
+pub built_under : (to : Layer) (active : Active) (h : Header) → IsSps active.sps → HeaderFits active h → is_unbuilt to active h ≡ false → IsBuiltShapeIn (layer_of active) (shape_of active h)
+built_under to active h sps fits e = built_shape (layer_of active) active h sps fits (not_unbuilt to active h e)
+
+abbrev pub DecidedSlice : Layer → InitTable → SetMaps → ℕ → List Bool → Type 0
+DecidedSlice to init sets header bits = ((s : Slice) × IsSliceOf to init sets header bits s) ⊎ ((why : Why) × IsNoSlice to init sets header bits why)
 
 -- behind this header stand no data
-pub no_data : (to : Layer) (sets : SetMaps) (header : ℕ) (bits rest : List Bool) (h : Header) (f : FoundHeader sets h) → Spells (slice_header sets header) bits (Found h rest)
-    → (unbuilt : Bool) (why : Why) → is_unbuilt to f.active h ≡ unbuilt → IsNoData unbuilt (shape_of f.active h) (length bits - length rest) rest why → IsNoSlice to sets header bits why
-no_data to sets header bits rest h f text unbuilt why e none =
-    let P : Bool → Type 0 = λ b. IsNoData b (shape_of f.active h) (length bits - length rest) rest why in
+pub no_data : (to : Layer) (init : InitTable) (sets : SetMaps) (header : ℕ) (bits rest : List Bool) (h : Header) (f : FoundHeader sets h) → Spells (slice_header sets header) bits (Found h rest)
+    → (unbuilt : Bool) (why : Why) → is_unbuilt to f.active h ≡ unbuilt → IsNoData unbuilt (layer_of f.active) init (shape_of f.active h) (length bits - length rest) rest why → IsNoSlice to init sets header bits why
+no_data to init sets header bits rest h f text unbuilt why e none =
+    let P : Bool → Type 0 = λ b. IsNoData b (layer_of f.active) init (shape_of f.active h) (length bits - length rest) rest why in
     inr (record { h = h; active = f.active; names = f.names; rest = rest; header_is = text; none = subst P (sym e) none })
 
 -- what follows a header is decided
-rest-decided : (to : Layer) (sets : SetMaps) (header : ℕ) (bits rest : List Bool) (h : Header) (f : FoundHeader sets h) → Spells (slice_header sets header) bits (Found h rest) → is_unbuilt to f.active h ≡ false
-    → ((mbs : List Mb) × HasText (shape_of f.active h) mbs × (rest ≡ slice_text (shape_of f.active h) (length bits - length rest) mbs)) ⊎ NoList (shape_of f.active h) (length bits - length rest) rest
-    → DecidedSlice to sets header bits
-rest-decided to sets header bits rest h f text built (inl d) =
-    inl (record { header = h; active = f.active; mbs = d.0 }, record { names = f.names; rest = rest; header_is = text; built = built; list = d.1; rest_is = d.2 })
-rest-decided to sets header bits rest h f text built (inr d) =
-    inr (BadSlice, no_data to sets header bits rest h f text false BadSlice built (refl, d))
+rest-decided : (to : Layer) (init : InitTable) (sets : SetMaps) (header : ℕ) (bits rest : List Bool) (h : Header) (f : FoundHeader sets h) → Spells (slice_header sets header) bits (Found h rest) → is_unbuilt to f.active h ≡ false
+    → DecidedIn (layer_of f.active) init (shape_of f.active h) (length bits - length rest) rest
+    → DecidedSlice to init sets header bits
+rest-decided to init sets header bits rest h f text built (inl d) =
+    inl (record { header = h; active = f.active; mbs = d.0 }, record { names = f.names; rest = rest; header_is = text; built = built; list = d.1; data_are = d.2 })
+rest-decided to init sets header bits rest h f text built (inr d) =
+    inr (BadSlice, no_data to init sets header bits rest h f text false BadSlice built (refl, d))
 
-data-decided : (to : Layer) (sets : SetMaps) (header : ℕ) (bits rest : List Bool) (h : Header) (f : FoundHeader sets h) (unbuilt : Bool) → AreInRange sets → Spells (slice_header sets header) bits (Found h rest)
-    → is_unbuilt to f.active h ≡ unbuilt → DecidedSlice to sets header bits
-data-decided to sets header bits rest h f true range text e = inr (Unbuilt, no_data to sets header bits rest h f text true Unbuilt e refl)
-data-decided to sets header bits rest h f false range text e =
+data-decided : (to : Layer) (init : InitTable) (sets : SetMaps) (header : ℕ) (bits rest : List Bool) (h : Header) (f : FoundHeader sets h) (unbuilt : Bool) → AreInRange sets → Spells (slice_header sets header) bits (Found h rest)
+    → is_unbuilt to f.active h ≡ unbuilt → DecidedSlice to init sets header bits
+data-decided to init sets header bits rest h f true range text e = inr (Unbuilt, no_data to init sets header bits rest h f text true Unbuilt e refl)
+data-decided to init sets header bits rest h f false range text e =
     let shape = built_under to f.active h (range f.active.pps.seq_parameter_set_id f.active.sps f.names.sps) f.fits e in
-    rest-decided to sets header bits rest h f text e (decided (shape_of f.active h) (length bits - length rest) rest shape)
+    rest-decided to init sets header bits rest h f text e (decided_in (layer_of f.active) init (shape_of f.active h) (length bits - length rest) rest shape)
 
-by_outcome : (to : Layer) (sets : SetMaps) (header : ℕ) (bits : List Bool) → AreInRange sets → (o : Outcome Refusal Header) → outcome_of (slice_header sets header) bits ≡ o → DecidedSlice to sets header bits
-by_outcome to sets header bits range (Found h rest) e =
+by_outcome : (to : Layer) (init : InitTable) (sets : SetMaps) (header : ℕ) (bits : List Bool) → AreInRange sets → (o : Outcome Refusal Header) → outcome_of (slice_header sets header) bits ≡ o → DecidedSlice to init sets header bits
+by_outcome to init sets header bits range (Found h rest) e =
     let text = spelled (slice_header sets header) bits (Found h rest) e (λ k. cc) in
     let f = header-found sets header bits rest h text in
-    data-decided to sets header bits rest h f (is_unbuilt to f.active h) range text refl
-by_outcome to sets header bits range (Refused cause) e =
+    data-decided to init sets header bits rest h f (is_unbuilt to f.active h) range text refl
+by_outcome to init sets header bits range (Refused cause) e =
     inr (why_of_header cause, inl (inr (cause, refl, spelled (slice_header sets header) bits (Refused cause) e (λ k. cc))))
-by_outcome to sets header bits range NoText e = inr (BadHeader, inl (inl (refl, nothing_spelled (slice_header sets header) bits e)))
+by_outcome to init sets header bits range NoText e = inr (BadHeader, inl (inl (refl, nothing_spelled (slice_header sets header) bits e)))
 
-pub slice-decided : (to : Layer) (sets : SetMaps) (header : ℕ) (bits : List Bool) → AreInRange sets → DecidedSlice to sets header bits
-slice-decided to sets header bits range = by_outcome to sets header bits range (outcome_of (slice_header sets header) bits) refl
+pub slice-decided : (to : Layer) (init : InitTable) (sets : SetMaps) (header : ℕ) (bits : List Bool) → AreInRange sets → DecidedSlice to init sets header bits
+slice-decided to init sets header bits range = by_outcome to init sets header bits range (outcome_of (slice_header sets header) bits) refl

@@ -2,8 +2,7 @@
 use Rattle.std.proofs.Common.{◌≡◌, ℕ, zero, suc, ◌+◌, ◌<◌, Bool, true, false, List, [], ◌∷◌, ◌++◌, length, get_or, take, drop, Option, Some, None, refl, sym, ap, ◌∙◌, arith}
 use Rattle.std.specs.Prelude.{All, is_some, if◌then◌else◌}
 use Rattle.std.proofs.lemmas.List.{take_more, take-append-drop, length-take-le}
-use Rattle.cavlc_mb_residual.specs.MacroblockResidual.{is_beyond_mb}
-use Rattle.cavlc_syntax.specs.SliceText.{prefix_bound, IsNotBeyond, HasText}
+use Rattle.cavlc_syntax.specs.SliceText.{prefix_bound, IsNotBeyond, HasText, is_beyond_in}
 use Rattle.h264_types.specs.declared.fault.Case.{Case}
 use Rattle.h264_types.specs.declared.fault.Case.TheVariants.{Empty, Level}
 use Rattle.h264_types.specs.declared.layer.Layer.{Layer}
@@ -13,7 +12,7 @@ use Rattle.h264_types.specs.declared.slice_shape.SliceShape.{SliceShape}
 use Rattle.h264_types.specs.SliceShape.{without_column}
 use Rattle.h264_types.specs.Valid.{IsMacroblock}
 use Rattle.pattern_fix.specs.NormalPattern.{IsEmptied}
-use Rattle.slice_rewrite.specs.Stops.{is_emptied, is_level_beyond, is_beyond_in, mb_stop, stop_or, stop_from, least_stop}
+use Rattle.slice_rewrite.specs.Stops.{is_emptied, is_level_beyond, is_written_beyond, mb_stop, stop_or, stop_from, least_stop}
 use Rattle.slice_data.specs.WrittenForm.{written_mb}
 use Rattle.slice_rewrite.proofs.Normal.{emptied_is, written_is_within}
 
@@ -33,27 +32,27 @@ not_both b e f = let both : true ≡ false = sym e ∙ f in absurd cc
 
 pub goes_kept : (to : Layer) (shape : SliceShape) (mb : Mb) → mb_stop to shape mb ≡ None → IsEmptied mb → ⊥
 unfolding chosen
-goes_kept to shape mb e is = not_both (is_emptied mb) ((emptied_is mb).1 is) (neither (is_emptied mb) (is_beyond_in to shape mb) e).0
+goes_kept to shape mb e is = not_both (is_emptied mb) ((emptied_is mb).1 is) (neither (is_emptied mb) (is_written_beyond to shape mb) e).0
 
 pub goes_within : (shape : SliceShape) (mb : Mb) → mb_stop Cavlc shape mb ≡ None → IsNotBeyond shape (written_mb Cavlc mb)
 unfolding chosen
-goes_within shape mb e = (neither (is_emptied mb) (is_beyond_in Cavlc shape mb) e).1
+goes_within shape mb e = (neither (is_emptied mb) (is_written_beyond Cavlc shape mb) e).1
 
 pub stops_emptied : (to : Layer) (shape : SliceShape) (mb : Mb) → IsEmptied mb → mb_stop to shape mb ≡ Some Empty
-stops_emptied to shape mb is = ap (λ b. if b then Some Empty else (if is_beyond_in to shape mb then Some Level else None)) ((emptied_is mb).1 is)
+stops_emptied to shape mb is = ap (λ b. if b then Some Empty else (if is_written_beyond to shape mb then Some Level else None)) ((emptied_is mb).1 is)
 
 not_emptied : (mb : Mb) (b : Bool) → is_emptied mb ≡ b → (IsEmptied mb → ⊥) → b ≡ false
 not_emptied mb true e kept = absurd (kept ((emptied_is mb).0 e))
 not_emptied mb false e kept = refl
 
 -- one that keeps its mb_qp_delta stops by its levels alone
-pub stops_by_levels : (to : Layer) (shape : SliceShape) (mb : Mb) (beyond : Bool) → (IsEmptied mb → ⊥) → is_beyond_in to shape mb ≡ beyond → mb_stop to shape mb ≡ (if beyond then Some Level else None)
+pub stops_by_levels : (to : Layer) (shape : SliceShape) (mb : Mb) (beyond : Bool) → (IsEmptied mb → ⊥) → is_written_beyond to shape mb ≡ beyond → mb_stop to shape mb ≡ (if beyond then Some Level else None)
 stops_by_levels to shape mb beyond kept e =
-    ap (λ b. if b then Some Empty else (if is_beyond_in to shape mb then Some Level else None)) (not_emptied mb (is_emptied mb) refl kept) ∙ ap (λ b. if b then Some Level else None) e
+    ap (λ b. if b then Some Empty else (if is_written_beyond to shape mb then Some Level else None)) (not_emptied mb (is_emptied mb) refl kept) ∙ ap (λ b. if b then Some Level else None) e
 
 -- no stop rests on the column
-level_of_both : (to : Layer) (first second : SliceShape) (mb : Mb) → without_column first ≡ without_column second → is_level_beyond to first mb ≡ is_level_beyond to second mb
-level_of_both Cavlc first second mb same = ap (λ (s : SliceShape). is_beyond_mb (prefix_bound s) mb) same
+pub level_of_both : (to : Layer) (first second : SliceShape) (mb : Mb) → without_column first ≡ without_column second → is_level_beyond to first mb ≡ is_level_beyond to second mb
+level_of_both Cavlc first second mb same = ap (λ (s : SliceShape). is_beyond_in s mb) same
 level_of_both Cabac first second mb same = refl
 
 pub stop_of_both : (to : Layer) (first second : SliceShape) (mb : Mb) → without_column first ≡ without_column second → mb_stop to first mb ≡ mb_stop to second mb
@@ -134,7 +133,7 @@ same_stop : (shape : SliceShape) (mb : Mb) → IsMacroblock shape mb → IsNotBe
 same_stop shape mb is within = by (is_emptied mb) refl
   where
     by : (emptied : Bool) → is_emptied mb ≡ emptied
-        → (if emptied then Some Empty else (if is_beyond_mb (prefix_bound shape) (written_mb Cavlc mb) then Some Level else None)) ≡ (if emptied then Some Empty else None)
+        → (if emptied then Some Empty else (if is_beyond_in shape (written_mb Cavlc mb) then Some Level else None)) ≡ (if emptied then Some Empty else None)
     by true e = refl
     by false e = ap (λ b. if b then Some Level else None) (written_is_within Cavlc shape (prefix_bound shape) mb is.sizes is (λ gone. not_both (is_emptied mb) ((emptied_is mb).1 gone) e) within)
 

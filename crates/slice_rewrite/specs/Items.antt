@@ -1,13 +1,12 @@
 -- What the units of a stream are read as (ITU-T H.264, 7.3.1, 7.4.1 and Table 7-1).
 use Rattle.std.specs.Prelude.{◌≡◌, ℕ, ◌-◌, ◌%◌, ◌&&◌, ◌||◌, ◌==◌, nat_le, if◌then◌else◌, Bool, false, List, [], ◌∷◌, drop, length, slice_index}
 use Rattle.bit_texts.specs.Bits.{bits_of}
-use Rattle.cavlc_syntax.specs.SliceText.{HasText, slice_text}
 use Rattle.exp_golomb.specs.EmulationPrevention.{IsEscape}
 use Rattle.exp_golomb.specs.Syntax.{Found, Spells}
 use Rattle.h264_types.specs.declared.layer.Layer.{Layer}
 use Rattle.h264_types.specs.declared.macroblock.Mb.{Mb}
+use Rattle.init_table.specs.declared.table.InitTable.{InitTable}
 use Rattle.param_sets.specs.PictureParameterSet.{PpsText}
-use Rattle.param_sets.specs.PpsCodes.{mode_flag_of}
 use Rattle.param_sets.specs.SequenceParameterSet.{SpsText}
 use Rattle.param_sets.specs.Sets.{SetMaps, no_sets, sps_put, pps_put}
 use Rattle.param_sets.specs.declared.pps.Pps.{Pps}
@@ -17,6 +16,7 @@ use Rattle.slice_header.specs.Shape.{is_mbaff, shape_of}
 use Rattle.header_parts.specs.ActiveSets.{Active}
 use Rattle.slice_header.specs.SliceHeader.{slice_header}
 use Rattle.header_parts.specs.declared.header.Header.{Header}
+use Rattle.slice_rewrite.specs.Layers.{layer_of, HasDataIn, IsDataIn}
 use Rattle.slice_rewrite.specs.declared.kinds.UnitKind.{UnitKind}
 use Rattle.slice_rewrite.specs.declared.kinds.UnitKind.TheVariants.{Carried as IsCarried, Slice as IsSlice, Sps as IsSps, Pps as IsPps, Refused as IsRefused}
 
@@ -78,31 +78,32 @@ sets_behind (i ∷ before) = put i (sets_behind before)
 
 -- ## Slices
 
--- Slices of MBAFF frames aren't recoded yet, nor those in CABAC, nor any to CABAC: they are refused behind their headers.
+-- Slices of MBAFF frames aren't recoded yet, whatever layer is wanted: they are refused behind their headers.
 abbrev pub is_unbuilt : Layer → Active → Header → Bool
-is_unbuilt to active h = is_mbaff active h || (active.pps.entropy_coding_mode_flag || mode_flag_of to)
+is_unbuilt to active h = is_mbaff active h
 
--- these bits, the payload of a unit with this header byte, are those of the slice under the sets that stand (7.3.2.8)
-pub record IsSliceOf (to : Layer) (sets : SetMaps) (header : ℕ) (bits : List Bool) (s : Slice) : Type 0 where
+-- these bits, the payload of a unit with this header byte, are those of the slice under the sets that stand (7.3.2.8), with
+-- this table of initial pairs where it is in CABAC
+pub record IsSliceOf (to : Layer) (init : InitTable) (sets : SetMaps) (header : ℕ) (bits : List Bool) (s : Slice) : Type 0 where
   pub names : Names sets s.header.pic_parameter_set_id s.active
   pub rest : List Bool
   pub header_is : Spells (slice_header sets header) bits (Found s.header rest)
   pub built : is_unbuilt to s.active s.header ≡ false
-  pub list : HasText (shape_of s.active s.header) s.mbs
-  pub rest_is : rest ≡ slice_text (shape_of s.active s.header) (length bits - length rest) s.mbs
+  pub list : HasDataIn (layer_of s.active) (shape_of s.active s.header) s.mbs
+  pub data_are : IsDataIn (layer_of s.active) init (shape_of s.active s.header) (length bits - length rest) s.mbs rest
 
 -- ## Reading
 
--- the unit is read as this item, for this layer and under these sets
-abbrev pub IsItem : Layer → SetMaps → List ℕ → Item → Type 0
-IsItem to sets unit (Carried u) = (payload : List ℕ) × IsUnit IsCarried payload unit × (u ≡ unit)
-IsItem to sets unit (TheSps header sps) = (payload : List ℕ) × IsUnit IsSps payload unit × (header ≡ header_of unit) × SpsText sps (bits_of payload)
-IsItem to sets unit (ThePps header pps) = (payload : List ℕ) × IsUnit IsPps payload unit × (header ≡ header_of unit) × PpsText pps (bits_of payload)
-IsItem to sets unit (TheSlice s) = (payload : List ℕ) × IsUnit IsSlice payload unit × IsSliceOf to sets (header_of unit) (bits_of payload) s
+-- the unit is read as this item, for this layer, with this table and under these sets
+abbrev pub IsItem : Layer → InitTable → SetMaps → List ℕ → Item → Type 0
+IsItem to init sets unit (Carried u) = (payload : List ℕ) × IsUnit IsCarried payload unit × (u ≡ unit)
+IsItem to init sets unit (TheSps header sps) = (payload : List ℕ) × IsUnit IsSps payload unit × (header ≡ header_of unit) × SpsText sps (bits_of payload)
+IsItem to init sets unit (ThePps header pps) = (payload : List ℕ) × IsUnit IsPps payload unit × (header ≡ header_of unit) × PpsText pps (bits_of payload)
+IsItem to init sets unit (TheSlice s) = (payload : List ℕ) × IsUnit IsSlice payload unit × IsSliceOf to init sets (header_of unit) (bits_of payload) s
 
 -- one item for each unit, in order, behind those items of which the last one comes first
-abbrev pub AreItems : Layer → List Item → List (List ℕ) → List Item → Type 0
-AreItems to before [] [] = Unit {0}
-AreItems to before (u ∷ us) (i ∷ items) = IsItem to (sets_behind before) u i × AreItems to (i ∷ before) us items
-AreItems to before [] (i ∷ items) = ⊥
-AreItems to before (u ∷ us) [] = ⊥
+abbrev pub AreItems : Layer → InitTable → List Item → List (List ℕ) → List Item → Type 0
+AreItems to init before [] [] = Unit {0}
+AreItems to init before (u ∷ us) (i ∷ items) = IsItem to init (sets_behind before) u i × AreItems to init (i ∷ before) us items
+AreItems to init before [] (i ∷ items) = ⊥
+AreItems to init before (u ∷ us) [] = ⊥

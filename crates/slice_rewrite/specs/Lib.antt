@@ -1,3 +1,5 @@
+pub mod Options
+pub mod Layers
 pub mod Items
 pub mod Written
 pub mod Stops

@@ -2,13 +2,13 @@
 use Rattle.std.specs.Prelude.{◌≡◌, ℕ, Bool, false, List, [], ◌∷◌, ◌++◌, ◌≤◌, length, map, Option, Some, None, Result, Ok, Err}
 use Rattle.std.specs.declared.alloc.AllocError.{AllocError}
 use Rattle.bit_texts.specs.Bits.{bits_of}
-use Rattle.cavlc_syntax.specs.SliceText.{IsBuilt}
 use Rattle.h264_types.specs.Valid.{IsSlice}
 use Rattle.h264_types.specs.declared.fault.Case.{Case}
 use Rattle.h264_types.specs.declared.fault.Why.TheVariants.{Slice as BadSlice}
 use Rattle.h264_types.specs.declared.layer.Layer.{Layer}
 use Rattle.h264_types.specs.declared.layer.Layer.TheVariants.{Cavlc}
 use Rattle.h264_types.specs.declared.macroblock.Mb.{Mb}
+use Rattle.init_table.specs.declared.table.InitTable.{InitTable}
 use Rattle.h264_types.specs.SliceShape.{without_column}
 use Rattle.h264_types.specs.declared.slice_shape.SliceShape.{SliceShape}
 use Rattle.param_sets.specs.PpsCodes.{IsPps}
@@ -25,38 +25,46 @@ use Rattle.slice_rewrite.specs.declared.opening.OpenSlice.{OpenSlice}
 use Rattle.slice_rewrite.specs.Items.{Slice, is_unbuilt, IsSliceOf}
 use Rattle.slice_rewrite.specs.Stops.{is_level_beyond, mb_stop, least_stop, slice_stop}
 use Rattle.slice_rewrite.specs.Verdict.{IsNoSlice}
-use Rattle.slice_rewrite.specs.Written.{slice_under, slice_bits}
+use Rattle.slice_rewrite.specs.Layers.{HasDataIn, IsDataIn, IsBuiltIn}
+use Rattle.slice_rewrite.specs.Options.{Options, IsTried}
+use Rattle.slice_rewrite.specs.Written.{slice_under, IsSliceBits}
 use Rattle.slice_data.specs.WrittenForm.{written_mb}
 
 -- ## Whole slices
 
 -- the bits are those of a slice that can be written, this payload is written for it, and so many macroblocks it has
-pub record IsSliceForm (to : Layer) (number : ℕ) (sets : SetMaps) (header : ℕ) (bits : List Bool) (payload : List ℕ) (macroblocks : ℕ) : Type 0 where
+pub record IsSliceForm (o : Options) (number : ℕ) (sets : SetMaps) (header : ℕ) (bits : List Bool) (payload : List ℕ) (macroblocks : ℕ) : Type 0 where
   pub slice : Slice
-  pub read : IsSliceOf to sets header bits slice
-  pub goes_on : slice_stop to slice ≡ None
-  pub written : bits_of payload ≡ slice_bits (slice_under to number 0 slice)
+  pub read : IsSliceOf o.to o.init sets header bits slice
+  pub goes_on : slice_stop o.to slice ≡ None
+  pub idc : ℕ
+  pub tried : IsTried o.tries idc
+  pub written : IsSliceBits o.init (slice_under o.to number idc slice) (bits_of payload)
   pub count : macroblocks ≡ length slice.mbs
 
 -- the bits are those of no slice, or of one whose least macroblock that can't be written is this, or there is no memory
-abbrev pub IsSliceRefusal : Layer → SetMaps → ℕ → List Bool → RewriteFault → Type 0
-IsSliceRefusal to sets header bits (Outside why) = IsNoSlice to sets header bits why
-IsSliceRefusal to sets header bits (Stop case k) = (slice : Slice) × IsSliceOf to sets header bits slice × (slice_stop to slice ≡ Some (case, k))
-IsSliceRefusal to sets header bits Memory = Unit {0}
+abbrev pub IsSliceRefusal : Layer → InitTable → SetMaps → ℕ → List Bool → RewriteFault → Type 0
+IsSliceRefusal to init sets header bits (Outside why) = IsNoSlice to init sets header bits why
+IsSliceRefusal to init sets header bits (Stop case k) = (slice : Slice) × IsSliceOf to init sets header bits slice × (slice_stop to slice ≡ Some (case, k))
+IsSliceRefusal to init sets header bits Memory = Unit {0}
 
 -- a slice of these parts
 abbrev pub coded : Active → Header → List Mb → Slice
 coded active h mbs = record { header = h; active = active; mbs = mbs }
 
 -- the bits are those of the slice of this header and these macroblocks, under the sets that it names
-abbrev pub IsSliceRead : SetMaps → ℕ → List Bool → Header → List Mb → Type 0
-IsSliceRead sets header bits h mbs = (active : Active) × IsSliceOf Cavlc sets header bits (coded active h mbs)
+abbrev pub IsSliceRead : InitTable → SetMaps → ℕ → List Bool → Header → List Mb → Type 0
+IsSliceRead init sets header bits h mbs = (active : Active) × IsSliceOf Cavlc init sets header bits (coded active h mbs)
 
 -- the bits are those of no slice, or there is no memory
+abbrev pub IsNotRead : Layer → InitTable → SetMaps → ℕ → List Bool → RewriteFault → Type 0
+IsNotRead to init sets header bits (Outside why) = IsNoSlice to init sets header bits why
+IsNotRead to init sets header bits (Stop case k) = ⊥
+IsNotRead to init sets header bits Memory = Unit {0}
+
+-- the same, whatever the table of initial pairs
 abbrev pub IsNotOpened : Layer → SetMaps → ℕ → List Bool → RewriteFault → Type 0
-IsNotOpened to sets header bits (Outside why) = IsNoSlice to sets header bits why
-IsNotOpened to sets header bits (Stop case k) = ⊥
-IsNotOpened to sets header bits Memory = Unit {0}
+IsNotOpened to sets header bits fault = (init : InitTable) → IsNotRead to init sets header bits fault
 
 -- the sets that were found for it
 abbrev pub sets_in : OpenSlice → Active
@@ -72,17 +80,18 @@ pub record IsOpened (to : Layer) (sets : SetMaps) (header : ℕ) (bits : List Bo
   pub shape : s.shape ≡ shape_of (sets_in s) s.header
   pub kept : s.bits.taken ++ s.bits.left ≡ bits
 
--- a slice under these sets: its header is in range, and the macroblocks are those of a slice of its shape
-pub record IsUnderSets (sets : SetMaps) (active : Active) (h : Header) (mbs : List Mb) : Type 0 where
+-- a slice under these sets: its header is in range, and the macroblocks are those of a slice of its shape, which is one that
+-- is written in this layer
+pub record IsUnderSets (to : Layer) (sets : SetMaps) (active : Active) (h : Header) (mbs : List Mb) : Type 0 where
   pub names : Names sets h.pic_parameter_set_id active
   pub fits : HeaderFits active h
-  pub built : IsBuilt (shape_of active h)
+  pub built : IsBuiltIn to (shape_of active h)
   pub are : IsSlice (shape_of active h) mbs
 
 -- the payload that is written for it, where it can be written
-pub record IsSliceWritten (to : Layer) (number idc : ℕ) (s : Slice) (payload : List ℕ) : Type 0 where
+pub record IsSliceWritten (to : Layer) (init : InitTable) (number idc : ℕ) (s : Slice) (payload : List ℕ) : Type 0 where
   pub goes_on : slice_stop to s ≡ None
-  pub written : bits_of payload ≡ slice_bits (slice_under to number idc s)
+  pub written : IsSliceBits init (slice_under to number idc s) (bits_of payload)
 
 -- the least macroblock that can't be written is this, or there is no memory
 abbrev pub IsNotWritten : Layer → Slice → RewriteFault → Type 0
@@ -110,6 +119,13 @@ abbrev pub IsNoCopy : (SliceShape → List Mb → Type 0) → (SliceShape → �
 IsNoCopy HasData IsData to shape pos left (Outside why) = (why ≡ BadSlice) × NoList HasData IsData shape pos left
 IsNoCopy HasData IsData to shape pos left (Stop case k) = (mbs : List Mb) × HasData shape mbs × IsData shape pos mbs left × (least_stop to shape mbs ≡ Some (case, k))
 IsNoCopy HasData IsData to shape pos left Memory = Unit {0}
+
+-- the same by the layer that is read
+abbrev pub IsCopyIn : Layer → InitTable → (SliceShape → ℕ → List Mb → List Bool → Type 0) → Layer → SliceShape → SliceShape → ℕ → List Bool → List Bool → List Bool → ℕ → Type 0
+IsCopyIn layer init IsWritten = IsCopy (HasDataIn layer) (IsDataIn layer init) IsWritten
+
+abbrev pub IsNoCopyIn : Layer → InitTable → Layer → SliceShape → ℕ → List Bool → RewriteFault → Type 0
+IsNoCopyIn layer init = IsNoCopy (HasDataIn layer) (IsDataIn layer init)
 
 -- the data are those of no slice, or there is no memory
 abbrev pub IsNoDataRead : (SliceShape → List Mb → Type 0) → (SliceShape → ℕ → List Mb → List Bool → Type 0) → SliceShape → ℕ → List Bool → RewriteFault → Type 0

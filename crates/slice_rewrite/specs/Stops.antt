@@ -1,8 +1,7 @@
 -- Why a slice can't be written, though it is read.
 use Rattle.std.specs.Prelude.{ℕ, ◌+◌, Bool, false, not, ◌&&◌, ◌==◌, if◌then◌else◌, pos, List, [], ◌∷◌, Option, Some, None}
 use Rattle.std.specs.Ordering.{int_eq}
-use Rattle.cavlc_mb_residual.specs.MacroblockResidual.{is_beyond_mb}
-use Rattle.cavlc_syntax.specs.SliceText.{prefix_bound}
+use Rattle.cavlc_syntax.specs.SliceText.{is_beyond_in}
 use Rattle.h264_types.specs.Sent.{sends_pattern}
 use Rattle.h264_types.specs.declared.fault.Case.{Case}
 use Rattle.h264_types.specs.declared.fault.Case.TheVariants.{Empty, Level}
@@ -24,16 +23,16 @@ is_emptied mb =
 
 -- in CAVLC a level needs a longer level_prefix than the profile has (9.2.2.1); CABAC says all
 abbrev pub is_level_beyond : Layer → SliceShape → Mb → Bool
-is_level_beyond Cavlc shape mb = is_beyond_mb (prefix_bound shape) mb
+is_level_beyond Cavlc shape mb = is_beyond_in shape mb
 is_level_beyond Cabac shape mb = false
 
 -- the same of a macroblock as it is written
-abbrev pub is_beyond_in : Layer → SliceShape → Mb → Bool
-is_beyond_in to shape mb = is_level_beyond to shape (written_mb to mb)
+abbrev pub is_written_beyond : Layer → SliceShape → Mb → Bool
+is_written_beyond to shape mb = is_level_beyond to shape (written_mb to mb)
 
 -- why a macroblock can't be written in a layer
 abbrev pub mb_stop : Layer → SliceShape → Mb → Option Case
-mb_stop to shape mb = if is_emptied mb then Some Empty else (if is_beyond_in to shape mb then Some Level else None)
+mb_stop to shape mb = if is_emptied mb then Some Empty else (if is_written_beyond to shape mb then Some Level else None)
 
 abbrev pub stop_or : Option Case → ℕ → Option (Case × ℕ) → Option (Case × ℕ)
 stop_or (Some case) k later = Some (case, k)

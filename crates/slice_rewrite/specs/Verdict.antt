@@ -1,7 +1,6 @@
 -- What ends the recoding of a stream, and the items before it.
 use Rattle.std.specs.Prelude.{◌≡◌, ◌⊎◌, ℕ, ◌-◌, ◌^◌, min, Bool, true, false, ◌||◌, ◌==◌, if◌then◌else◌, List, [], ◌∷◌, drop, length, Option, Some, None, option_map}
 use Rattle.bit_texts.specs.Bits.{bits_of}
-use Rattle.cavlc_syntax.specs.SliceText.{NoList}
 use Rattle.exp_golomb.specs.EmulationPrevention.{IsEscape}
 use Rattle.exp_golomb.specs.Syntax.{Syntax, Outcome, Found, Refused, Spells}
 use Rattle.h264_types.specs.declared.fault.Why.{Why}
@@ -11,6 +10,7 @@ use Rattle.h264_types.specs.declared.fault.Case.TheVariants.{Number}
 use Rattle.h264_types.specs.declared.fault.Stopped.{Stopped}
 use Rattle.h264_types.specs.declared.fault.Stopped.TheVariants.{Stop as StopAt, Outside as OutsideAt, Memory as NoMemory}
 use Rattle.h264_types.specs.declared.layer.Layer.{Layer}
+use Rattle.init_table.specs.declared.table.InitTable.{InitTable}
 use Rattle.h264_types.specs.declared.slice_shape.SliceShape.{SliceShape}
 use Rattle.h264_types.specs.Units.{Seen}
 use Rattle.param_sets.specs.PictureParameterSet.{pic_parameter_set}
@@ -23,7 +23,8 @@ use Rattle.slice_header.specs.Shape.{shape_of}
 use Rattle.header_parts.specs.ActiveSets.{Active}
 use Rattle.slice_header.specs.SliceHeader.{slice_header}
 use Rattle.header_parts.specs.declared.header.Header.{Header}
-use Rattle.slice_rewrite.specs.declared.plan.Plan.{Plan}
+use Rattle.slice_rewrite.specs.Layers.{layer_of, NoDataIn}
+use Rattle.slice_rewrite.specs.Options.{Options}
 use Rattle.slice_rewrite.specs.declared.kinds.UnitKind.{UnitKind}
 use Rattle.slice_rewrite.specs.declared.kinds.UnitKind.TheVariants.{Slice as IsSlice, Sps as IsSps, Pps as IsPps, Refused as IsRefused}
 use Rattle.slice_rewrite.specs.Items.{header_of, kind_of, Item, Carried, TheSps, ThePps, TheSlice, sets_behind, is_unbuilt, IsItem}
@@ -51,44 +52,44 @@ IsNoText {E} {A} named none syntax bits why =
     ⊎ ((cause : E) × (why ≡ named cause) × Spells syntax bits (Refused cause))
 
 -- A slice that isn't recoded yet is refused as such; else the bits behind its header, with so many bits before them, are
--- no slice data.
-abbrev pub IsNoData : Bool → SliceShape → ℕ → List Bool → Why → Type 0
-IsNoData true shape pos rest why = why ≡ Unbuilt
-IsNoData false shape pos rest why = (why ≡ BadSlice) × NoList shape pos rest
+-- no slice data in its layer.
+abbrev pub IsNoData : Bool → Layer → InitTable → SliceShape → ℕ → List Bool → Why → Type 0
+IsNoData true layer init shape pos rest why = why ≡ Unbuilt
+IsNoData false layer init shape pos rest why = (why ≡ BadSlice) × NoDataIn layer init shape pos rest
 
 -- the bits begin with a slice header, and what follows are no slice data
-pub record HasNoData (to : Layer) (sets : SetMaps) (header : ℕ) (bits : List Bool) (why : Why) : Type 0 where
+pub record HasNoData (to : Layer) (init : InitTable) (sets : SetMaps) (header : ℕ) (bits : List Bool) (why : Why) : Type 0 where
   pub h : Header
   pub active : Active
   pub names : Names sets h.pic_parameter_set_id active
   pub rest : List Bool
   pub header_is : Spells (slice_header sets header) bits (Found h rest)
-  pub none : IsNoData (is_unbuilt to active h) (shape_of active h) (length bits - length rest) rest why
+  pub none : IsNoData (is_unbuilt to active h) (layer_of active) init (shape_of active h) (length bits - length rest) rest why
 
 -- they begin with no header, or hold no data
-abbrev pub IsNoSlice : Layer → SetMaps → ℕ → List Bool → Why → Type 0
-IsNoSlice to sets header bits why = IsNoText why_of_header BadHeader (slice_header sets header) bits why ⊎ HasNoData to sets header bits why
+abbrev pub IsNoSlice : Layer → InitTable → SetMaps → ℕ → List Bool → Why → Type 0
+IsNoSlice to init sets header bits why = IsNoText why_of_header BadHeader (slice_header sets header) bits why ⊎ HasNoData to init sets header bits why
 
 -- a unit of this kind and with this header byte has a payload that has no reading
-abbrev pub IsRefusedPayload : Layer → SetMaps → UnitKind → ℕ → List ℕ → Why → Type 0
-IsRefusedPayload to sets IsSps header payload why = IsNoText why_of BadSps seq_parameter_set (bits_of payload) why
-IsRefusedPayload to sets IsPps header payload why = IsNoText why_of BadPps pic_parameter_set (bits_of payload) why
-IsRefusedPayload to sets IsSlice header payload why = IsNoSlice to sets header (bits_of payload) why
-IsRefusedPayload to sets _ header payload why = ⊥
+abbrev pub IsRefusedPayload : Layer → InitTable → SetMaps → UnitKind → ℕ → List ℕ → Why → Type 0
+IsRefusedPayload to init sets IsSps header payload why = IsNoText why_of BadSps seq_parameter_set (bits_of payload) why
+IsRefusedPayload to init sets IsPps header payload why = IsNoText why_of BadPps pic_parameter_set (bits_of payload) why
+IsRefusedPayload to init sets IsSlice header payload why = IsNoSlice to init sets header (bits_of payload) why
+IsRefusedPayload to init sets _ header payload why = ⊥
 
 -- the unit has no payload, or one that has no reading
-abbrev pub IsRefusedEscape : Layer → SetMaps → UnitKind → List ℕ → Why → Type 0
-IsRefusedEscape to sets kind unit why =
+abbrev pub IsRefusedEscape : Layer → InitTable → SetMaps → UnitKind → List ℕ → Why → Type 0
+IsRefusedEscape to init sets kind unit why =
     ((why ≡ Escape) × ((payload : List ℕ) → IsEscape payload (drop 1 unit) → ⊥))
-    ⊎ ((payload : List ℕ) × IsEscape payload (drop 1 unit) × IsRefusedPayload to sets kind (header_of unit) payload why)
+    ⊎ ((payload : List ℕ) × IsEscape payload (drop 1 unit) × IsRefusedPayload to init sets kind (header_of unit) payload why)
 
 -- a unit of this kind has no item, for this reason
-abbrev pub IsRefusedUnit : Layer → SetMaps → UnitKind → List ℕ → Why → Type 0
-IsRefusedUnit to sets IsRefused unit why = why ≡ BadKind
-IsRefusedUnit to sets kind unit why = IsRefusedEscape to sets kind unit why
+abbrev pub IsRefusedUnit : Layer → InitTable → SetMaps → UnitKind → List ℕ → Why → Type 0
+IsRefusedUnit to init sets IsRefused unit why = why ≡ BadKind
+IsRefusedUnit to init sets kind unit why = IsRefusedEscape to init sets kind unit why
 
-abbrev pub Refuses : Layer → SetMaps → List ℕ → Why → Type 0
-Refuses to sets unit why = IsRefusedUnit to sets (kind_of unit) unit why
+abbrev pub Refuses : Layer → InitTable → SetMaps → List ℕ → Why → Type 0
+Refuses to init sets unit why = IsRefusedUnit to init sets (kind_of unit) unit why
 
 -- ## Stops
 
@@ -106,7 +107,7 @@ number_stop None taken = None
 number_stop (Some range) taken = if taken then Some (Number, 0) else None
 
 -- why an item can't be written behind those before it, and the number of the macroblock
-abbrev pub stop_of : Plan → List Item → Item → Option (Case × ℕ)
+abbrev pub stop_of : Options → List Item → Item → Option (Case × ℕ)
 stop_of o before (Carried unit) = None
 stop_of o before (TheSps header sps) = None
 stop_of o before (TheSlice slice) = slice_stop o.to slice
@@ -116,16 +117,16 @@ stop_of o before (ThePps header pps) = number_stop o.range (has_pps before (255 
 
 -- What becomes of these units, behind those that were read as the items before, the last one first, and of the fault
 -- behind them: the items of those before the verdict, and the verdict.
-abbrev pub Judges : Plan → List Item → List (List ℕ) → Option Why → List Item → Option Stopped → Type 0
-Judges o before (u ∷ us) fault (i ∷ items) verdict = IsItem o.to (sets_behind before) u i × (stop_of o before i ≡ None) × Judges o (i ∷ before) us fault items verdict
-Judges o before (u ∷ us) fault [] (Some (OutsideAt m why)) = (m ≡ unit_number (length before)) × Refuses o.to (sets_behind before) u why
+abbrev pub Judges : Options → List Item → List (List ℕ) → Option Why → List Item → Option Stopped → Type 0
+Judges o before (u ∷ us) fault (i ∷ items) verdict = IsItem o.to o.init (sets_behind before) u i × (stop_of o before i ≡ None) × Judges o (i ∷ before) us fault items verdict
+Judges o before (u ∷ us) fault [] (Some (OutsideAt m why)) = (m ≡ unit_number (length before)) × Refuses o.to o.init (sets_behind before) u why
 Judges o before (u ∷ us) fault [] (Some (StopAt case place)) =
-    (place.unit ≡ unit_number (length before)) × ((i : Item) × IsItem o.to (sets_behind before) u i × (stop_of o before i ≡ Some (case, place.mb)))
+    (place.unit ≡ unit_number (length before)) × ((i : Item) × IsItem o.to o.init (sets_behind before) u i × (stop_of o before i ≡ Some (case, place.mb)))
 Judges o before (u ∷ us) fault [] (Some NoMemory) = ⊥
 Judges o before (u ∷ us) fault [] None = ⊥
 Judges o before [] fault [] verdict = verdict ≡ option_map (OutsideAt (unit_number (length before))) fault
 Judges o before [] fault (i ∷ items) verdict = ⊥
 
 -- what becomes of all that is seen
-abbrev pub Recodes : Plan → Seen → List Item → Option Stopped → Type 0
+abbrev pub Recodes : Options → Seen → List Item → Option Stopped → Type 0
 Recodes o s items verdict = Judges o [] s.units s.fault items verdict

@@ -7,6 +7,7 @@ use Rattle.h264_types.specs.Units.{Splits}
 use Rattle.h264_types.specs.declared.layer.Layer.{Layer}
 use Rattle.h264_types.specs.declared.layer.Layer.TheVariants.{Cavlc}
 use Rattle.h264_types.specs.declared.macroblock.Mb.{Mb}
+use Rattle.init_table.specs.declared.table.InitTable.{InitTable}
 use Rattle.param_sets.specs.PpsCodes.{mode_flag_of, pps_in}
 use Rattle.param_sets.specs.SpsCodes.{without_constraints}
 use Rattle.param_sets.specs.declared.pps.Pps.{Pps}
@@ -53,9 +54,9 @@ view (TheSlice s ∷ items) = TheSliceView (slice_view s) ∷ view items
 
 -- ## Whole streams
 
--- these bytes are read as these items, for this layer
-abbrev pub Reads : Layer → List ℕ → List Item → Type 0
-Reads to b items = (units : List (List ℕ)) × Splits b units None × AreItems to [] units items
+-- these bytes are read as these items, for this layer and with this table of initial pairs
+abbrev pub Reads : Layer → InitTable → List ℕ → List Item → Type 0
+Reads to init b items = (units : List (List ℕ)) × Splits b units None × AreItems to init [] units items
 
 -- the item is no slice, or one that can be written in this layer
 abbrev pub IsWritable : Layer → Item → Type 0
@@ -74,8 +75,8 @@ AreInLayer to (_ ∷ items) = AreInLayer to items
 
 -- Recoded for the layer, the stream of these items gives bytes that have a reading, with every slice in the layer, and
 -- they say the same.
-pub record SaysTheSame (to : Layer) (items : List Item) (bytes : List ℕ) : Type 0 where
+pub record SaysTheSame (to : Layer) (init : InitTable) (items : List Item) (bytes : List ℕ) : Type 0 where
   pub back : List Item
-  pub reads : Reads to bytes back
+  pub reads : Reads to init bytes back
   pub layer : AreInLayer to back
   pub same : view back ≡ view items

@@ -1,10 +1,10 @@
 -- What is written for a stream.
-use Rattle.std.specs.Prelude.{ℕ, ◌-◌, Bool, List, [], ◌∷◌, ◌++◌, length, map, Option, Some, None}
+use Rattle.std.specs.Prelude.{◌≡◌, ℕ, ◌-◌, Bool, List, [], ◌∷◌, ◌++◌, length, map, Option, Some, None}
 use Rattle.std.specs.List.{concat}
 use Rattle.bit_texts.specs.Bits.{bytes_of}
-use Rattle.cavlc_syntax.specs.SliceText.{slice_text}
 use Rattle.exp_golomb.specs.EmulationPrevention.{escaped}
 use Rattle.h264_types.specs.declared.layer.Layer.{Layer}
+use Rattle.init_table.specs.declared.table.InitTable.{InitTable}
 use Rattle.param_sets.specs.PpsCodes.{pps_in, pps_text}
 use Rattle.param_sets.specs.SpsCodes.{sps_text, without_constraints}
 use Rattle.param_sets.specs.declared.pps.Pps.{Pps}
@@ -12,8 +12,9 @@ use Rattle.param_sets.specs.declared.sps.Sps.{Sps}
 use Rattle.slice_data.specs.WrittenForm.{written_mb}
 use Rattle.slice_header.specs.HeaderCodes.{active_in, header_in, header_text, unconstrained}
 use Rattle.slice_header.specs.Shape.{shape_of}
-use Rattle.slice_rewrite.specs.declared.plan.Plan.{Plan}
 use Rattle.slice_rewrite.specs.Items.{Slice, Item, Carried, TheSps, ThePps, TheSlice}
+use Rattle.slice_rewrite.specs.Layers.{layer_of, IsNormalDataIn}
+use Rattle.slice_rewrite.specs.Options.{Options, IsTried}
 
 -- a unit behind zero_byte and start_code_prefix_one_3bytes (B.1.1)
 abbrev pub with_start_code : List ℕ → List ℕ
@@ -29,7 +30,7 @@ abbrev pub pps_unit : Layer → ℕ → ℕ → Pps → List ℕ
 pps_unit to number header pps = header ∷ escaped (bytes_of (pps_text (pps_in to number pps)))
 
 -- in a partial run as it was read, and in the wanted layer under another number
-abbrev pub pps_units : Plan → Option (ℕ × ℕ) → List ℕ → ℕ → Pps → List (List ℕ)
+abbrev pub pps_units : Options → Option (ℕ × ℕ) → List ℕ → ℕ → Pps → List (List ℕ)
 pps_units o None unit header pps = pps_unit o.to pps.pic_parameter_set_id header pps ∷ []
 pps_units o (Some range) unit header pps = unit ∷ pps_unit o.to (255 - pps.pic_parameter_set_id) header pps ∷ []
 
@@ -42,24 +43,27 @@ slice_under to number idc s = record {
   mbs = map (written_mb to) s.mbs;
 }
 
--- the same under its own number, with cabac_init_idc 0
-abbrev pub slice_in : Layer → Slice → Slice
-slice_in to s = slice_under to s.header.pic_parameter_set_id 0 s
+-- the same under its own number
+abbrev pub slice_in : Layer → ℕ → Slice → Slice
+slice_in to idc s = slice_under to s.header.pic_parameter_set_id idc s
 
--- its header, and its macroblocks with the trailing bits
-abbrev pub slice_bits : Slice → List Bool
-slice_bits s = let text = header_text s.active s.header in text ++ slice_text (shape_of s.active s.header) (length text) s.mbs
+-- the bits that are written for a slice, which is in its written form: its header, and its data in their normal form
+pub record IsSliceBits (init : InitTable) (s : Slice) (bits : List Bool) : Type 0 where
+  pub slice_data : List Bool
+  pub data_are : IsNormalDataIn (layer_of s.active) init (shape_of s.active s.header) (length (header_text s.active s.header)) s.mbs slice_data
+  pub bits_are : bits ≡ header_text s.active s.header ++ slice_data
 
-abbrev pub slice_unit : Slice → List ℕ
-slice_unit s = s.header.nal ∷ escaped (bytes_of (slice_bits s))
+abbrev pub IsSliceUnit : InitTable → Slice → List ℕ → Type 0
+IsSliceUnit init s unit = (bits : List Bool) × IsSliceBits init s bits × (unit ≡ s.header.nal ∷ escaped (bytes_of bits))
 
 -- The units that are written for a unit, which is read as this item. No run is partial yet: a slice outside a range isn't
 -- told apart.
-abbrev pub units_for : Plan → List ℕ → Item → List (List ℕ)
-units_for o unit (Carried u) = u ∷ []
-units_for o unit (TheSps header sps) = sps_unit header sps ∷ []
-units_for o unit (ThePps header pps) = pps_units o o.range unit header pps
-units_for o unit (TheSlice s) = slice_unit (slice_in o.to s) ∷ []
+abbrev pub AreUnitsFor : Options → List ℕ → Item → List (List ℕ) → Type 0
+AreUnitsFor o unit (Carried u) units = units ≡ u ∷ []
+AreUnitsFor o unit (TheSps header sps) units = units ≡ sps_unit header sps ∷ []
+AreUnitsFor o unit (ThePps header pps) units = units ≡ pps_units o o.range unit header pps
+AreUnitsFor o unit (TheSlice s) units =
+    (idc : ℕ) × (new : List ℕ) × IsTried o.tries idc × IsSliceUnit o.init (slice_in o.to idc s) new × (units ≡ new ∷ [])
 
 -- the macroblocks of a slice
 abbrev pub macroblocks_of : Item → ℕ
@@ -69,11 +73,16 @@ macroblocks_of (ThePps header pps) = 0
 macroblocks_of (TheSlice s) = length s.mbs
 
 -- the bytes that are written for a unit
-abbrev pub form_of : Plan → List ℕ → Item → List ℕ
-form_of o unit i = concat (map with_start_code (units_for o unit i))
+abbrev pub IsFormOf : Options → List ℕ → Item → List ℕ → Type 0
+IsFormOf o unit i form = (units : List (List ℕ)) × AreUnitsFor o unit i units × (form ≡ concat (map with_start_code units))
 
--- all bytes that are written for these units, which are read as these items up to the verdict
-unfoldable pub output : Plan → List (List ℕ) → List Item → List ℕ
-output o [] items = []
-output o (u ∷ us) [] = []
-output o (u ∷ us) (i ∷ items) = form_of o u i ++ output o us items
+-- what is written for these units, one after another, which are read as these items up to the verdict
+abbrev pub AreForms : Options → List (List ℕ) → List Item → List (List ℕ) → Type 0
+AreForms o [] items forms = forms ≡ []
+AreForms o (u ∷ us) [] forms = forms ≡ []
+AreForms o (u ∷ us) (i ∷ items) [] = ⊥
+AreForms o (u ∷ us) (i ∷ items) (form ∷ forms) = IsFormOf o u i form × AreForms o us items forms
+
+-- all bytes that are written for them
+abbrev pub IsOutput : Options → List (List ℕ) → List Item → List ℕ → Type 0
+IsOutput o units items bytes = (forms : List (List ℕ)) × AreForms o units items forms × (bytes ≡ concat forms)

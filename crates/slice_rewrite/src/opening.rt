@@ -1,8 +1,8 @@
 // A slice whose header was read, before its macroblocks are.
-ghost use Rattle.std.specs.Prelude.{◌≡◌, ◌≤◌, ℕ, ◌||◌, List, Bool, IfOk, IfErr};
+ghost use Rattle.std.specs.Prelude.{◌≡◌, ◌≤◌, ℕ, List, Bool, IfOk, IfErr};
 ghost use Rattle.bit_texts.specs.Bits.{bits_of};
-ghost use Rattle.param_sets.specs.PpsCodes.{mode_flag_of};
-ghost use Rattle.slice_rewrite.specs.SliceForms.{IsOpened, IsNotOpened};
+ghost use Rattle.slice_rewrite.specs.Layers.{layer_of};
+ghost use Rattle.slice_rewrite.specs.SliceForms.{IsOpened, IsNotOpened, sets_in};
 
 use crate::fault::RewriteFault;
 use exp_golomb::SliceBits;
@@ -29,6 +29,17 @@ impl OpenSlice<'_> {
     {
         self.header.pic_parameter_set_id as u8
     }
+
+    /// The entropy layer of the slice (7.4.2.2).
+    pub(crate) fn layer(&self) -> Layer
+        ensures { result ≡ layer_of (sets_in self.now) }
+    {
+        if self.active.pps.entropy_coding_mode_flag {
+            Layer::Cabac
+        } else {
+            Layer::Cavlc
+        }
+    }
 }
 
 /// Reads the header of the slice unit with this header byte and this payload, under the sets that stand, so that it can
@@ -48,7 +59,7 @@ pub fn open_slice<'a>(
     let mut bits = SliceBits::new(payload);
     let (header, active) = read_header_with_sets(alloc, sets, header, &mut bits)?;
     let shape = shape_under(&active, &header);
-    if is_unbuilt(&active, &shape, to) {
+    if shape.mbaff {
         return Err(RewriteFault::Outside(Why::Unbuilt));
     }
     Ok(OpenSlice {
@@ -57,11 +68,4 @@ pub fn open_slice<'a>(
         shape,
         bits,
     })
-}
-
-/// Whether a slice of this shape can't be recoded to a layer yet.
-fn is_unbuilt(active: &ActiveSets<'_>, shape: &SliceShape, to: Layer) -> bool
-    ensures { result ≡ (shape.now.mbaff || (active.now.pps.now.entropy_coding_mode_flag || mode_flag_of to)) }
-{
-    shape.mbaff || active.pps.entropy_coding_mode_flag || matches!(to, Layer::Cabac)
 }

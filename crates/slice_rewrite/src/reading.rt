@@ -1,37 +1,60 @@
 // A slice, read into the list of its macroblocks.
-ghost use Rattle.std.specs.Prelude.{[], ℕ, Bool, List, IfOk, IfErr};
+ghost use Rattle.std.specs.Prelude.{[], ℕ, Bool, List, length, IfOk, IfErr};
 ghost use Rattle.bit_texts.specs.Bits.{bits_of};
 ghost use Rattle.h264_types.specs.SliceShape.{IsSliceShape};
 ghost use Rattle.init_table.specs.declared.table.InitTable.{InitTable};
-ghost use Rattle.slice_rewrite.specs.SliceForms.{IsSliceRead, IsNotOpened, IsNoDataRead};
+ghost use Rattle.slice_rewrite.specs.Layers.{HasDataIn, IsBuiltIn, IsDataIn};
+ghost use Rattle.slice_rewrite.specs.SliceForms.{IsSliceRead, IsNotRead, IsNoDataRead};
 
 use crate::fault::RewriteFault;
 use crate::opening::open_slice;
 use crate::slice::Slice;
+use cabac_syntax::CabacReader;
 use cavlc_syntax::CavlcReader;
+use exp_golomb::SliceBits;
 use h264_types::{Layer, Mb, MbKind, SliceShape};
+use init_table::InitTable;
 use param_sets::Sets;
 use slice_data::SliceReader;
 use std::alloc::Global;
 
-/// Reads the payload of a slice unit with this header byte under the sets that stand. Outside: the payload has no reading.
-/// Stop never comes.
+/// Reads the payload of a slice unit with this header byte under the sets that stand, with this table of initial pairs where it
+/// is in CABAC. Outside: the payload has no reading. Stop never comes.
 pub fn read_slice(
     alloc: Global,
     sets: &Sets,
+    init: &InitTable,
     header: u8,
     payload: &[u8],
 ) -> Result<Slice, RewriteFault>
-    ensures ok { IfOk result (λ slice. IsSliceRead sets.now header (bits_of payload.now) slice.header slice.mbs.items) }
-    ensures err { IfErr result (IsNotOpened Layer.Cavlc sets.now header (bits_of payload.now)) }
+    ensures ok { IfOk result (λ slice. IsSliceRead init.now sets.now header (bits_of payload.now) slice.header slice.mbs.items) }
+    ensures err { IfErr result (IsNotRead Layer.Cavlc init.now sets.now header (bits_of payload.now)) }
 {
     let opened = open_slice(alloc, sets, header, payload, Layer::Cavlc)?;
-    let reader = CavlcReader::start(alloc, opened.shape, opened.bits)?;
-    let mbs = read_data(alloc, opened.shape, reader)?;
+    let mbs = read_in(alloc, init, opened.layer(), opened.shape, opened.bits)?;
     Ok(Slice {
         header: opened.header,
         mbs,
     })
+}
+
+// Reads slice data of a layer to their end.
+fn read_in(
+    alloc: Global,
+    init: &InitTable,
+    layer: Layer,
+    shape: SliceShape,
+    bits: SliceBits<'_>,
+) -> Result<Vec<Mb>, RewriteFault>
+    requires shape { IsSliceShape shape }
+    requires built { IsBuiltIn layer shape }
+    ensures ok { IfOk result (λ mbs. HasDataIn layer shape mbs.items × IsDataIn layer init.now shape (length bits.entry.taken) mbs.items bits.entry.left) }
+    ensures err { IfErr result (IsNoDataRead (HasDataIn layer) (IsDataIn layer init.now) shape (length bits.entry.taken) bits.entry.left) }
+{
+    match layer {
+        Layer::Cavlc => read_data(alloc, shape, CavlcReader::start(alloc, shape, bits)?),
+        Layer::Cabac => read_data(alloc, shape, CabacReader::start(alloc, shape, init, bits)?),
+    }
 }
 
 // Reads slice data to their end.

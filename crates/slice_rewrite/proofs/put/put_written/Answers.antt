@@ -4,12 +4,19 @@ use Rattle.std.proofs.lemmas.Bool.{false≢true}
 use Rattle.h264_types.specs.Valid.{is_ref0}
 use Rattle.h264_types.specs.declared.macroblock.Mb.{Mb}
 use Rattle.slice_data.specs.WrittenForm.{has_ref0}
-use Rattle.slice_data.specs.Writing.{PutGives}
+use Rattle.slice_data.specs.Writing.{MayPut, PutGives}
 use Rattle.slice_data.specs.declared.fault.PutFault.{PutFault}
 use Rattle.slice_rewrite.specs.Stops.{is_level_beyond}
 use Rattle.slice_rewrite.proofs.Normal.{same_written}
 use Rattle.slice_rewrite.proofs.Stops.{stops_by_levels}
 use Rattle.slice_rewrite.proofs.put.put_written.Goals as goal
+
+pub put-requires : goal.put-requires
+put-requires g c =
+    let to = g.W.SliceWriter.LAYER in
+    let same = same_written to c.args.mb.now c.normalise.new.mb c.is_ref0_in-mb.result c.in-Ok.ensures.normal (c.is_ref0_in-mb.ensures ∙ ap (λ l. has_ref0 l && is_ref0 c.normalise.new.mb) c.LAYER.ensures) in
+    let P : Mb → Type 0 = λ m. MayPut to g.W.SliceWriter.writes c.args.writer.now m in
+    subst P (sym same) (c.requires.next (λ gone. false≢true (c.in-Ok.ensures.emptied.1 gone)))
 
 pub returns-in-Ok-put : goal.returns-in-Ok-put
 returns-in-Ok-put g c init shape before done w =

@@ -56,7 +56,7 @@ put_written-requires-clause-next g c kept =
     let none = none_of c.loop-count.stop c.if-is_none.ensures in
     let is = g.met.R.SliceReader.lists_are_slices shape ((inv.0 ++ mb ∷ []) ++ begins.0) begins.1 in
     let put = begins_written to shape inv.0 begins.0 mb is (inv.4 ∙ none) kept in
-    (sym (written-written to mb), (init, at.1, at.4, map (written_mb to) inv.0, inv.5 none init at.1 at.4 at.7, (put.0, slices_of_both shape at.1 _ at.5.same at.5.column put.1)))
+    (sym (written-written to to mb), (init, at.1, at.4, map (written_mb to) inv.0, inv.5 none init at.1 at.4 at.7, (put.0, slices_of_both shape at.1 _ at.5.same at.5.column put.1)))
 
 pub loop-count-preserved : goal.loop-count-preserved
 loop-count-preserved g c =

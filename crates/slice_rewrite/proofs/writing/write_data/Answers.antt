@@ -35,7 +35,7 @@ put_written-requires-clause-next g c kept =
     let to = g.W.SliceWriter.LAYER in
     let inv = c.loop-k.invariant in
     let writes = c.requires.writes in
-    (sym (written-written to (get_or c.args.mbs.now c.loop-k.k _)), (writes.0, c.args.shape, writes.1, map (written_mb to) (take c.loop-k.k c.args.mbs.now), inv.writes writes.0 writes.1 writes.2, begins_at to c.args.shape c.args.mbs.now c.loop-k.k _ c.loop-k-test.true c.requires.mbs inv.goes_on kept))
+    (sym (written-written to to (get_or c.args.mbs.now c.loop-k.k _)), (writes.0, c.args.shape, writes.1, map (written_mb to) (take c.loop-k.k c.args.mbs.now), inv.writes writes.0 writes.1 writes.2, begins_at to c.args.shape c.args.mbs.now c.loop-k.k _ c.loop-k-test.true c.requires.mbs inv.goes_on kept))
 
 pub returns-in-Some-clause-err : goal.returns-in-Some-clause-err
 returns-in-Some-clause-err g c =

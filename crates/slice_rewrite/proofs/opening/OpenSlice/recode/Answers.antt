@@ -1,50 +1,37 @@
-use Rattle.std.proofs.Common.{length, map, refl}
+-- The header is written, and the data behind it, in the shape of the header that is written.
+use Rattle.std.proofs.Common.{map}
 use Rattle.std.proofs.lemmas.Result.{err_from_is_err_and}
-use Rattle.h264_types.specs.declared.layer.Layer.TheVariants.{Cavlc}
-use Rattle.h264_types.specs.SliceShape.{IsSliceShape}
-use Rattle.h264_types.specs.declared.slice_shape.SliceShape.{SliceShape}
 use Rattle.slice_data.specs.WrittenForm.{written_mb}
-use Rattle.slice_rewrite.specs.SliceForms.{IsOtherColumn}
-use Rattle.slice_rewrite.proofs.SliceForms.{any_table, wanted, shape_built, data_fills, copied, not_copied}
+use Rattle.slice_rewrite.specs.SliceForms.{sets_in}
+use Rattle.slice_rewrite.proofs.SliceForms.{shape_built, shape_of_both, shape_written, data_fills, copied, not_copied}
 use Rattle.slice_rewrite.proofs.opening.OpenSlice.recode.Goals as goal
 
-pub start-requires : goal.start-requires
-start-requires c = shape_built c.args.to c.requires.0 c.requires.1 c.requires.2 c.args.self c.requires.3
+pub copy_to-requires-clause-column : goal.copy_to-requires-clause-column
+copy_to-requires-clause-column g c = c.written_shape-shape.ensures.other (shape_built c.args.to c.requires.0 c.requires.1 c.requires.2 c.args.self c.requires.3).is_shape
 
-pub copy_data-requires-clause-shape : goal.copy_data-requires-clause-shape
-copy_data-requires-clause-shape c = (shape_built c.args.to c.requires.0 c.requires.1 c.requires.2 c.args.self c.requires.3).is_shape
+pub copy_to-requires-clause-shape : goal.copy_to-requires-clause-shape
+copy_to-requires-clause-shape g c =
+    let is = (shape_built c.args.to c.requires.0 c.requires.1 c.requires.2 c.args.self c.requires.3).is_shape in
+    shape_of_both c.args.self.shape c.written_shape-shape.result (c.written_shape-shape.ensures.other is) is
 
-pub copy_data-requires-clause-levels : goal.copy_data-requires-clause-levels
-copy_data-requires-clause-levels c shape mb = refl
-
--- the slice is written in the shape that it was read in
-same_column : (shape : SliceShape) → IsSliceShape shape → IsOtherColumn shape shape
-same_column shape is = record { same = refl; column = is.column }
-
-pub copy_data-requires-clause-stand : goal.copy_data-requires-clause-stand
-copy_data-requires-clause-stand c =
+pub copy_to-requires-clause-built : goal.copy_to-requires-clause-built
+copy_to-requires-clause-built g c =
     let self = c.args.self in
-    let is = (shape_built c.args.to c.requires.0 c.requires.1 c.requires.2 self c.requires.3).is_shape in
-    (any_table, self.shape, length self.bits.taken, self.bits.left, c.write_header_under.new.out, same_column self.shape is, c.in_ok-reader.ensures.stands, c.in_ok-writer.ensures.writes)
+    let r = c.requires.3 in
+    shape_written c.args.to c.args.number c.number_tried-idc.result c.requires.0 c.requires.1 c.requires.2 self c.written_shape-shape.result r (c.written_shape-shape.ensures.written (sets_in self) self.header c.args.number r.shape)
 
 pub into_bytes-requires : goal.into_bytes-requires
-into_bytes-requires c =
-    let self = c.args.self in
-    let is = (shape_built c.args.to c.requires.0 c.requires.1 c.requires.2 self c.requires.3).is_shape in
-    let k = c.in_ok-out.ensures.ok any_table self.shape (length self.bits.taken) self.bits.left c.write_header_under.new.out (same_column self.shape is) c.in_ok-reader.ensures.stands c.in_ok-writer.ensures.writes in
-    data_fills self.shape c.write_header_under.new.out c.in_ok-out.out k.text (map (written_mb Cavlc) k.mbs) k.is_text k.written
+into_bytes-requires g c =
+    let k = c.in_ok-out.ensures.ok in
+    data_fills c.args.to c.args.init.now c.written_shape-shape.result c.write_header_under.new.out c.in_ok-out.out k.text (map (written_mb c.args.to) k.mbs) k.is_text k.written
 
 pub returns-clause-ok : goal.returns-clause-ok
-returns-clause-ok c sets header bits r =
+returns-clause-ok g c sets header bits r =
     let self = c.args.self in
-    let is = (shape_built c.args.to c.requires.0 c.requires.1 c.requires.2 self c.requires.3).is_shape in
-    let k = c.in_ok-out.ensures.ok any_table self.shape (length self.bits.taken) self.bits.left c.write_header_under.new.out (same_column self.shape is) c.in_ok-reader.ensures.stands c.in_ok-writer.ensures.writes in
-    copied c.args.to c.args.number sets header bits self c.new-out.result c.write_header_under.new.out c.in_ok-out.out c.into_bytes.result.items c.in_ok-out.macroblocks
-    (wanted c.args.to sets header bits self r) r c.new-out.ensures c.in_ok-write_header_under.ensures k c.into_bytes.ensures
+    copied c.args.to c.args.init.now (g.P.InitPick.tried c.args.pick.now) c.args.number c.number_tried-idc.result sets header bits self c.written_shape-shape.result c.new-out.result c.write_header_under.new.out c.in_ok-out.out c.into_bytes.result.items c.in_ok-out.macroblocks
+    c.number_tried-idc.ensures.tried r (c.written_shape-shape.ensures.written (sets_in self) self.header c.args.number r.shape) c.new-out.ensures c.in_ok-write_header_under.ensures c.in_ok-out.ensures.ok c.into_bytes.ensures
 
 pub returns-in_err-out-clause-err : goal.returns-in_err-out-clause-err
-returns-in_err-out-clause-err c sets header bits r =
-    let self = c.args.self in
+returns-in_err-out-clause-err g c sets header bits r =
     let p = err_from_is_err_and c.from_residual-in_err-out.result c.from_residual-in_err-out.ensures.1 in
-    rw (p.1, p.2) (not_copied c.args.to sets header bits self c.in_err-out.field-0.0 (wanted c.args.to sets header bits self r) r
-    (c.in_err-out.ensures.err any_table (length self.bits.taken) self.bits.left c.in_ok-reader.ensures.stands))
+    rw (p.1, p.2) (not_copied c.args.to c.args.init.now sets header bits c.args.self c.in_err-out.field-0.0 r c.in_err-out.ensures.err)
