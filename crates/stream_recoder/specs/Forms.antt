@@ -7,24 +7,24 @@ use Rattle.param_sets.specs.declared.fault.SetFault.{SetFault}
 use Rattle.param_sets.specs.declared.fault.SetFault.TheVariants.{NoReading, Profile, Limit, Memory as NoRoom}
 use Rattle.slice_rewrite.specs.declared.fault.RewriteFault.{RewriteFault}
 use Rattle.slice_rewrite.specs.declared.fault.RewriteFault.TheVariants.{Outside, Stop, Memory}
-use Rattle.slice_rewrite.specs.declared.plan.Plan.{Plan}
+use Rattle.slice_rewrite.specs.Options.{Options}
 use Rattle.slice_rewrite.specs.Items.{Item, put, IsItem}
 use Rattle.slice_rewrite.specs.Verdict.{Refuses, stop_of}
-use Rattle.slice_rewrite.specs.Written.{form_of, macroblocks_of}
+use Rattle.slice_rewrite.specs.Written.{IsFormOf, macroblocks_of}
 
 -- the unit is read as some item, these bytes are written for it, and the sets behind it stand
-pub record IsForm (o : Plan) (sets after : SetMaps) (unit form : List ℕ) (macroblocks : ℕ) : Type 0 where
+pub record IsForm (o : Options) (sets after : SetMaps) (unit form : List ℕ) (macroblocks : ℕ) : Type 0 where
   pub item : Item
-  pub read : IsItem o.to sets unit item
+  pub read : IsItem o.to o.init sets unit item
   pub goes_on : (before : List Item) → stop_of o before item ≡ None
   pub sets_are : after ≡ put item sets
   pub count : macroblocks ≡ macroblocks_of item
-  pub bytes : form ≡ form_of o unit item
+  pub bytes : IsFormOf o unit item form
 
 -- the unit has no item, or one that can't be written, whatever stands before it, or there is no memory
-abbrev pub IsRefusal : Plan → SetMaps → List ℕ → RewriteFault → Type 0
-IsRefusal o sets unit (Outside why) = Refuses o.to sets unit why
-IsRefusal o sets unit (Stop case k) = (item : Item) × IsItem o.to sets unit item × ((before : List Item) → stop_of o before item ≡ Some (case, k))
+abbrev pub IsRefusal : Options → SetMaps → List ℕ → RewriteFault → Type 0
+IsRefusal o sets unit (Outside why) = Refuses o.to o.init sets unit why
+IsRefusal o sets unit (Stop case k) = (item : Item) × IsItem o.to o.init sets unit item × ((before : List Item) → stop_of o before item ≡ Some (case, k))
 IsRefusal o sets unit Memory = Unit {0}
 
 -- why a parameter set isn't read; where its bits have no reading this is the name of that

@@ -1,13 +1,15 @@
 //! The recoder: the bytes of a stream in, written units out.
 ghost use Rattle.std.specs.Prelude.{◌≡◌, ◌+◌, ◌∷◌, ◌++◌, [], ℕ, List, length, map, Some, None, OnOk, OnErr, OnSome, Err, IfErr, IfOk, IfSome, IfNone};
 ghost use Rattle.slice_rewrite.specs.Items.{unit_type};
+ghost use Rattle.slice_rewrite.specs.Options.{options};
 ghost use Rattle.stream_recoder.specs.Written.{Written};
 
 use crate::unit_form::{UnitForm, unit_form};
 use annexb_units::{SplitFault, Splitter};
 use h264_types::{Place, Stopped};
+use init_table::InitTable;
 use param_sets::Sets;
-use slice_rewrite::{Plan, RewriteFault, unit_type};
+use slice_rewrite::{InitPick, Plan, RewriteFault, unit_type};
 use std::alloc::{AllocError as Memory, Global};
 use std::collections::VecDeque;
 use stream_taps::Event;
@@ -16,9 +18,13 @@ use stream_taps::Event;
 ///
 /// It holds the unit that is being read, the parameter sets that stand, and what was written and not drained yet.
 #[derive(Drop)]
-pub struct Recoder {
+pub struct Recoder<P> {
     alloc: Global,
     plan: Plan,
+    /// The table of initial pairs of CABAC (9.3.1.1).
+    init: InitTable,
+    /// Chooses cabac_init_idc.
+    pick: P,
     splitter: Splitter,
     /// The parameter sets that stand behind the units that were read.
     sets: Sets,
@@ -29,17 +35,19 @@ pub struct Recoder {
     ghost whole: { plan.range ≡ None },
 }
 
-impl Recoder {
-    ghost use Rattle.stream_recoder.specs.Recoder.{waiting, waiting_count, plan_of, IsStopped, HasRecoded, RecodesMore, RecodingStops, Drains, IsKept, Adds, IsRefusedBy, stopped_at, TakesAll, TakingStops};
+impl<P: InitPick> Recoder<P> {
+    ghost use Rattle.stream_recoder.specs.Recoder.{waiting, waiting_count, options_of, IsStopped, HasRecoded, RecodesMore, RecodingStops, Drains, IsKept, Adds, IsRefusedBy, stopped_at, TakesAll, TakingStops};
 
     /// A recoder at the beginning of a stream, for a run that is not partial.
-    pub fn new(alloc: Global, plan: Plan) -> Result<Recoder, Memory>
+    pub fn new(alloc: Global, plan: Plan, init: InitTable, pick: P) -> Result<Recoder<P>, Memory>
         requires { plan.range ≡ None }
-        ensures { IfOk result (λ recoder. HasRecoded recoder [] [] × (plan_of recoder ≡ plan)) }
+        ensures { IfOk result (λ recoder. HasRecoded P.tried recoder [] [] × (options_of P.tried recoder ≡ options plan init (P.tried pick)) × (recoder.pick ≡ pick)) }
     {
         Ok(Recoder {
             alloc,
             plan,
+            init,
+            pick,
             splitter: Splitter::new(alloc),
             sets: Sets::new(alloc),
             forms: VecDeque::new(alloc),
@@ -51,11 +59,12 @@ impl Recoder {
     /// Takes the next piece of the stream. What was written before a stop can still be drained, and the same stop comes
     /// again from then on.
     pub fn feed(&mut self, piece: &[u8]) -> Result<(), Stopped>
-        ensures ok { OnOk result (RecodesMore self.old self.new piece.now) }
-        ensures err { IfErr result (RecodingStops self.old self.new piece.now) }
+        ensures ok { OnOk result (RecodesMore P.tried self.old self.new piece.now) }
+        ensures err { IfErr result (RecodingStops P.tried self.old self.new piece.now) }
         ensures again { (stopped : _) → IsStopped self.old stopped → (result ≡ Err stopped) × (self.new ≡ self.old) }
         ensures stops { IfErr result (IsStopped self.new) }
-        ensures plan { plan_of self.new ≡ plan_of self.old }
+        ensures options { options_of P.tried self.new ≡ options_of P.tried self.old }
+        ensures pick { self.new.pick ≡ self.old.pick }
     {
         if let Some(stopped) = self.stopped {
             return Err(stopped);
@@ -72,11 +81,12 @@ impl Recoder {
 
     /// Takes the end of the stream, which is three more zero bytes: the last unit ends there.
     pub fn finish(&mut self) -> Result<(), Stopped>
-        ensures ok { OnOk result (RecodesMore self.old self.new (0 ∷ 0 ∷ 0 ∷ [])) }
-        ensures err { IfErr result (RecodingStops self.old self.new (0 ∷ 0 ∷ 0 ∷ [])) }
+        ensures ok { OnOk result (RecodesMore P.tried self.old self.new (0 ∷ 0 ∷ 0 ∷ [])) }
+        ensures err { IfErr result (RecodingStops P.tried self.old self.new (0 ∷ 0 ∷ 0 ∷ [])) }
         ensures again { (stopped : _) → IsStopped self.old stopped → (result ≡ Err stopped) × (self.new ≡ self.old) }
         ensures stops { IfErr result (IsStopped self.new) }
-        ensures plan { plan_of self.new ≡ plan_of self.old }
+        ensures options { options_of P.tried self.new ≡ options_of P.tried self.old }
+        ensures pick { self.new.pick ≡ self.old.pick }
     {
         self.feed(&[0, 0, 0])
     }
@@ -84,22 +94,24 @@ impl Recoder {
     /// Gives the bytes that are written for the next unit, start codes included, with the event of it. None comes where
     /// all were taken. It takes no memory.
     pub fn drain(&mut self) -> Option<(Vec<u8>, Event)>
-        ensures some { IfSome result (λ written. Drains self.old self.new record { form = written.0.items; event = written.1 }) }
-        ensures none { IfNone result ((waiting self.old ≡ []) × IsKept self.old self.new) }
+        ensures some { IfSome result (λ written. Drains P.tried self.old self.new record { form = written.0.items; event = written.1 }) }
+        ensures none { IfNone result ((waiting self.old ≡ []) × IsKept P.tried self.old self.new) }
         ensures fewer { OnSome result (waiting_count self.new + 1 ≡ waiting_count self.old) }
         ensures stopped { (stopped : _) → IsStopped self.old stopped → IsStopped self.new stopped }
-        ensures plan { plan_of self.new ≡ plan_of self.old }
+        ensures options { options_of P.tried self.new ≡ options_of P.tried self.old }
+        ensures pick { self.new.pick ≡ self.old.pick }
     {
         self.forms.pop_front()
     }
 
     // Takes the units that have ended, up to the first that is refused.
     fn take_ended(&mut self) -> Result<(), Stopped>
-        ensures ok { OnOk result (TakesAll self.old self.new) }
-        ensures err { IfErr result (TakingStops self.old self.new) }
+        ensures ok { OnOk result (TakesAll P.tried self.old self.new) }
+        ensures err { IfErr result (TakingStops P.tried self.old self.new) }
         ensures stopped { OnOk result (self.new.stopped ≡ self.old.stopped) }
         ensures stops { IfErr result (λ e. self.new.stopped ≡ Some e) }
-        ensures plan { self.new.plan ≡ self.old.plan }
+        ensures options { options_of P.tried self.new ≡ options_of P.tried self.old }
+        ensures pick { self.new.pick ≡ self.old.pick }
     {
         while let Some(unit) = self.splitter.take_unit() {
             self.recode(&unit)?;
@@ -109,14 +121,22 @@ impl Recoder {
 
     // Reads a unit, and puts what is written for it behind what waits.
     fn recode(&mut self, unit: &[u8]) -> Result<(), Stopped>
-        ensures ok { OnOk result (Adds self.old self.new unit.now) }
-        ensures err { IfErr result (IsRefusedBy self.old unit.now) }
+        ensures ok { OnOk result (Adds P.tried self.old self.new unit.now) }
+        ensures err { IfErr result (IsRefusedBy P.tried self.old unit.now) }
         ensures waits { OnErr result (waiting self.new ≡ waiting self.old) }
         ensures splitter { self.new.splitter ≡ self.old.splitter }
         ensures stops { IfErr result (λ e. self.new.stopped ≡ Some e) }
-        ensures plan { self.new.plan ≡ self.old.plan }
+        ensures options { options_of P.tried self.new ≡ options_of P.tried self.old }
+        ensures pick { self.new.pick ≡ self.old.pick }
     {
-        let form = match unit_form(self.alloc, self.plan, &mut self.sets, unit) {
+        let form = match unit_form(
+            self.alloc,
+            self.plan,
+            &self.init,
+            &mut self.pick,
+            &mut self.sets,
+            unit,
+        ) {
             Ok(form) => form,
             Err(fault) => return Err(self.refuse(fault)),
         };

@@ -4,14 +4,18 @@ ghost use Rattle.bit_texts.specs.Bits.{bits_of, bytes_of};
 ghost use Rattle.exp_golomb.specs.EmulationPrevention.{HasEscape, escaped};
 ghost use Rattle.param_sets.specs.PpsCodes.{IsPps};
 ghost use Rattle.param_sets.specs.SpsCodes.{IsSps, without_constraints};
+ghost use Rattle.init_table.specs.declared.table.InitTable.{InitTable};
 ghost use Rattle.slice_rewrite.specs.Items.{kind_of};
+ghost use Rattle.slice_rewrite.specs.Options.{options};
+ghost use Rattle.slice_rewrite.specs.declared.pick.Tries.{Tries};
 ghost use Rattle.slice_rewrite.specs.Written.{with_start_code, sps_unit, pps_unit};
 ghost use Rattle.stream_recoder.specs.Forms.{IsForm, IsRefusal, set_fault};
 
 use annexb_units::{has_payload, unescape, write_unit};
 use h264_types::{Layer, Why};
+use init_table::InitTable;
 use param_sets::{Pps, SetFault, Sets, Sps, read_pps, read_sps, write_pps, write_sps};
-use slice_rewrite::{Plan, RewriteFault, UnitKind, open_slice, unit_kind};
+use slice_rewrite::{InitPick, Plan, RewriteFault, UnitKind, open_slice, unit_kind};
 use std::alloc::{AllocError as Memory, Global};
 
 /// A unit in its written form.
@@ -24,15 +28,18 @@ pub struct UnitForm {
 }
 
 /// What is written for a unit under the sets that stand. A parameter set stands behind it.
-pub fn unit_form(
+pub fn unit_form<P: InitPick>(
     alloc: Global,
     plan: Plan,
+    init: &InitTable,
+    pick: &mut P,
     sets: &mut Sets,
     unit: &[u8],
 ) -> Result<UnitForm, RewriteFault>
     requires { plan.range ≡ None }
-    ensures ok { IfOk result (λ form. IsForm plan sets.old sets.new unit.now form.bytes.items form.macroblocks) }
-    ensures err { IfErr result (IsRefusal plan sets.old unit.now) }
+    ensures ok { IfOk result (λ form. IsForm (options plan init.now (P.tried pick.old)) sets.old sets.new unit.now form.bytes.items form.macroblocks) }
+    ensures err { IfErr result (IsRefusal (options plan init.now (P.tried pick.old)) sets.old unit.now) }
+    ensures pick { pick.new ≡ pick.old }
 {
     if unit.is_empty() {
         return Err(RewriteFault::Outside(Why::Kind));
@@ -41,7 +48,7 @@ pub fn unit_form(
         UnitKind::Carried => carried_form(alloc, plan, sets, unit),
         UnitKind::Sps => sps_form(alloc, plan, sets, unit),
         UnitKind::Pps => pps_form(alloc, plan, sets, unit),
-        UnitKind::Slice => coded_form(alloc, plan, sets, unit),
+        UnitKind::Slice => coded_form(alloc, plan, init, pick, sets, unit),
         UnitKind::Refused => Err(RewriteFault::Outside(Why::Kind)),
     }
 }
@@ -55,8 +62,8 @@ fn carried_form(
 ) -> Result<UnitForm, RewriteFault>
     requires kind { kind_of unit.now ≡ UnitKind.Carried }
     requires some { 1 ≤ length unit.now }
-    ensures ok { IfOk result (λ form. IsForm plan sets.now sets.now unit.now form.bytes.items form.macroblocks) }
-    ensures err { IfErr result (IsRefusal plan sets.now unit.now) }
+    ensures ok { (init : InitTable) (tries : Tries) → IfOk result (λ form. IsForm (options plan init tries) sets.now sets.now unit.now form.bytes.items form.macroblocks) }
+    ensures err { (init : InitTable) (tries : Tries) → IfErr result (IsRefusal (options plan init tries) sets.now unit.now) }
 {
     if !has_payload(unit) {
         return Err(RewriteFault::Outside(Why::Escape));
@@ -87,8 +94,8 @@ fn sps_form(
 ) -> Result<UnitForm, RewriteFault>
     requires kind { kind_of unit.now ≡ UnitKind.Sps }
     requires some { 1 ≤ length unit.now }
-    ensures ok { IfOk result (λ form. IsForm plan sets.old sets.new unit.now form.bytes.items form.macroblocks) }
-    ensures err { IfErr result (IsRefusal plan sets.old unit.now) }
+    ensures ok { (init : InitTable) (tries : Tries) → IfOk result (λ form. IsForm (options plan init tries) sets.old sets.new unit.now form.bytes.items form.macroblocks) }
+    ensures err { (init : InitTable) (tries : Tries) → IfErr result (IsRefusal (options plan init tries) sets.old unit.now) }
 {
     let payload = unescape(alloc, unit)?;
     let sps = match read_sps(alloc, payload.as_slice()) {
@@ -113,8 +120,8 @@ fn pps_form(
     requires kind { kind_of unit.now ≡ UnitKind.Pps }
     requires some { 1 ≤ length unit.now }
     requires whole { plan.range ≡ None }
-    ensures ok { IfOk result (λ form. IsForm plan sets.old sets.new unit.now form.bytes.items form.macroblocks) }
-    ensures err { IfErr result (IsRefusal plan sets.old unit.now) }
+    ensures ok { (init : InitTable) (tries : Tries) → IfOk result (λ form. IsForm (options plan init tries) sets.old sets.new unit.now form.bytes.items form.macroblocks) }
+    ensures err { (init : InitTable) (tries : Tries) → IfErr result (IsRefusal (options plan init tries) sets.old unit.now) }
 {
     let payload = unescape(alloc, unit)?;
     let pps = match read_pps(alloc, payload.as_slice()) {
@@ -130,16 +137,24 @@ fn pps_form(
 }
 
 // A slice is written in the wanted layer.
-fn coded_form(alloc: Global, plan: Plan, sets: &Sets, unit: &[u8]) -> Result<UnitForm, RewriteFault>
+fn coded_form<P: InitPick>(
+    alloc: Global,
+    plan: Plan,
+    init: &InitTable,
+    pick: &mut P,
+    sets: &Sets,
+    unit: &[u8],
+) -> Result<UnitForm, RewriteFault>
     requires kind { kind_of unit.now ≡ UnitKind.Slice }
     requires some { 1 ≤ length unit.now }
-    ensures ok { IfOk result (λ form. IsForm plan sets.now sets.now unit.now form.bytes.items form.macroblocks) }
-    ensures err { IfErr result (IsRefusal plan sets.now unit.now) }
+    ensures ok { IfOk result (λ form. IsForm (options plan init.now (P.tried pick.old)) sets.now sets.now unit.now form.bytes.items form.macroblocks) }
+    ensures err { IfErr result (IsRefusal (options plan init.now (P.tried pick.old)) sets.now unit.now) }
+    ensures pick { pick.new ≡ pick.old }
 {
     let payload = unescape(alloc, unit)?;
     let opened = open_slice(alloc, sets, unit[0], payload.as_slice(), plan.to)?;
     let number = opened.pps_number();
-    let slice = opened.recode(alloc, plan.to, number)?;
+    let slice = opened.recode(alloc, init, plan.to, number, pick)?;
     let bytes = payload_unit(alloc, unit[0], slice.payload.as_slice())?;
     Ok(UnitForm {
         bytes,

@@ -3,7 +3,8 @@ use Rattle.std.proofs.lemmas.Result.{err_from_is_err_and}
 use Rattle.bit_texts.specs.Bits.{bits_of, bytes_of}
 use Rattle.exp_golomb.specs.EmulationPrevention.{escaped}
 use Rattle.slice_rewrite.specs.Items.{header_of}
-use Rattle.slice_rewrite.specs.Written.{with_start_code, slice_under, slice_bits}
+use Rattle.slice_rewrite.specs.Options.{options, whole_run}
+use Rattle.slice_rewrite.specs.Written.{with_start_code, slice_under}
 use Rattle.slice_rewrite.specs.SliceForms.{IsOpened, IsNotOpened}
 use Rattle.slice_rewrite.proofs.ComesBack.{slice_payload}
 use Rattle.slice_rewrite.proofs.SliceForms.{refused_as, written_under_own}
@@ -11,50 +12,53 @@ use Rattle.stream_recoder.proofs.UnitForms.{escape_refused_slice, has_escape, sl
 use Rattle.stream_recoder.proofs.unit_form.coded_form.Goals as goal
 
 pub returns-in_err-payload-clause-err : goal.returns-in_err-payload-clause-err
-returns-in_err-payload-clause-err c =
+returns-in_err-payload-clause-err g c =
     let p = err_from_is_err_and c.from_residual.result c.from_residual.ensures.1 in
-    rw (p.1, p.2) (escape_refused_slice c.args.plan c.args.sets.now c.args.unit.now c.in_err-payload.field-0.0 c.requires.kind c.in_err-payload.ensures.err)
+    let o = options c.args.plan c.args.init.now (g.P.InitPick.tried c.args.pick.now) in
+    rw (p.1, p.2) (escape_refused_slice o c.args.sets.now c.args.unit.now c.in_err-payload.field-0.0 c.requires.kind c.in_err-payload.ensures.err)
 
 pub returns-in_err-opened-clause-err : goal.returns-in_err-opened-clause-err
-returns-in_err-opened-clause-err c =
+returns-in_err-opened-clause-err g c =
     let p = err_from_is_err_and c.from_residual-in_err-opened.result c.from_residual-in_err-opened.ensures.1 in
+    let o = options c.args.plan c.args.init.now (g.P.InitPick.tried c.args.pick.now) in
     let header = header_of c.args.unit.now in
     let N : List ℕ → Type 0 = λ payload. IsNotOpened c.args.plan.to c.args.sets.now header (bits_of payload) c.in_err-opened.field-0.0 in
-    rw (p.1, p.2) (slice_refused c.args.plan c.args.sets.now c.args.unit.now c.in_ok-payload.payload.items c.in_err-opened.field-0.0 c.requires.kind c.in_ok-payload.ensures.ok
-    (refused_as c.args.plan.to c.args.sets.now header (bits_of c.in_ok-payload.payload.items) c.in_err-opened.field-0.0 (subst N c.as_slice.ensures.value c.in_err-opened.ensures.err)))
+    rw (p.1, p.2) (slice_refused o c.args.sets.now c.args.unit.now c.in_ok-payload.payload.items c.in_err-opened.field-0.0 c.requires.kind c.in_ok-payload.ensures.ok
+    (refused_as o.to o.init c.args.sets.now header (bits_of c.in_ok-payload.payload.items) c.in_err-opened.field-0.0 (subst N c.as_slice.ensures.value c.in_err-opened.ensures.err)))
 
 pub pps_number-number-requires : goal.pps_number-number-requires
-pps_number-number-requires c = c.in_ok-opened.ensures.ok.fits.pic_parameter_set_id
+pps_number-number-requires g c = c.in_ok-opened.ensures.ok.fits.pic_parameter_set_id
 
 pub recode-requires : goal.recode-requires
-recode-requires c = (c.args.sets.now, _, _, c.in_ok-opened.ensures.ok)
+recode-requires g c = (c.args.sets.now, _, _, c.in_ok-opened.ensures.ok)
 
 pub returns-in_err-slice-clause-err : goal.returns-in_err-slice-clause-err
-returns-in_err-slice-clause-err c =
+returns-in_err-slice-clause-err g c =
     let p = err_from_is_err_and c.from_residual-in_err-slice.result c.from_residual-in_err-slice.ensures.1 in
+    let o = options c.args.plan c.args.init.now (g.P.InitPick.tried c.args.pick.now) in
     let header = header_of c.args.unit.now in
     let O : List ℕ → Type 0 = λ payload. IsOpened c.args.plan.to c.args.sets.now header (bits_of payload) c.in_ok-opened.opened in
-    rw (p.1, p.2) (slice_refused c.args.plan c.args.sets.now c.args.unit.now c.in_ok-payload.payload.items c.in_err-slice.field-0.0 c.requires.kind c.in_ok-payload.ensures.ok
+    rw (p.1, p.2) (slice_refused o c.args.sets.now c.args.unit.now c.in_ok-payload.payload.items c.in_err-slice.field-0.0 c.requires.kind c.in_ok-payload.ensures.ok
     (c.in_err-slice.ensures.err c.args.sets.now header (bits_of c.in_ok-payload.payload.items) (subst O c.as_slice.ensures.value c.in_ok-opened.ensures.ok)))
 
 pub payload_unit-requires : goal.payload_unit-requires
-payload_unit-requires c =
+payload_unit-requires g c =
     let f = c.in_ok-slice.ensures.ok c.args.sets.now _ _ c.in_ok-opened.ensures.ok in
-    let written = slice_under c.args.plan.to c.pps_number-number.result 0 f.slice in
-    has_escape c.as_slice-2.result.now (slice_bits written) (slice_payload written) (ap bits_of c.as_slice-2.ensures.value ∙ f.written)
+    let bits = bits_of c.in_ok-slice.slice.payload.items in
+    let written = slice_under c.args.plan.to c.pps_number-number.result f.idc f.slice in
+    has_escape c.as_slice-2.result.now bits (slice_payload c.args.init.now written bits f.written) (ap bits_of c.as_slice-2.ensures.value)
 
 pub returns-clause-ok : goal.returns-clause-ok
-returns-clause-ok c =
-    let to = c.args.plan.to in
+returns-clause-ok g c =
+    let o = options c.args.plan c.args.init.now (g.P.InitPick.tried c.args.pick.now) in
     let sets = c.args.sets.now in
     let header = header_of c.args.unit.now in
     let opened = c.in_ok-opened.opened in
     let slice = c.in_ok-slice.slice in
-    let number = c.pps_number-number.result in
     let bits = bits_of c.in_ok-payload.payload.items in
-    let O : List ℕ → Type 0 = λ payload. IsOpened to sets header (bits_of payload) opened in
+    let O : List ℕ → Type 0 = λ payload. IsOpened o.to sets header (bits_of payload) opened in
     let r = subst O c.as_slice.ensures.value c.in_ok-opened.ensures.ok in
     let f = rw c.pps_number-number.ensures at (c.in_ok-slice.ensures.ok sets header bits r) in
-    slice_written c.args.plan sets c.args.unit.now c.in_ok-payload.payload.items c.in_ok-bytes.bytes.items slice.payload.items opened.header.pic_parameter_set_id slice.macroblocks c.requires.kind c.in_ok-payload.ensures.ok f
-    (written_under_own to sets header bits opened slice.payload.items slice.macroblocks r f)
+    slice_written o sets c.args.unit.now c.in_ok-payload.payload.items c.in_ok-bytes.bytes.items slice.payload.items opened.header.pic_parameter_set_id slice.macroblocks c.requires.kind c.in_ok-payload.ensures.ok f
+    (written_under_own (whole_run o.to o.init o.tries) sets header bits opened slice.payload.items slice.macroblocks r f)
     (c.in_ok-bytes.ensures ∙ ap (λ p. with_start_code (header ∷ escaped (bytes_of (bits_of p)))) c.as_slice-2.ensures.value)

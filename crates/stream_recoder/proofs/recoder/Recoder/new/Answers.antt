@@ -5,12 +5,13 @@ use Rattle.stream_recoder.proofs.recoder.Recoder.new.Goals as goal
 
 pub returns : goal.returns
 unfolding seen
-returns c = (
+returns g c = (
   record {
     items = [];
     holds = record { splitter = c.new.ensures; judged = refl; written = ap (λ v. map (λ w. let x : Written = record { form = w.0.items; event = w.1 } in x) v) c.new-3.ensures.items; count = refl; sets = c.new-2.ensures };
     sound = refl;
     on = refl;
   },
+  refl,
   refl,
 )

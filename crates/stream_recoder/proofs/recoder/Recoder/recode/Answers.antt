@@ -1,8 +1,9 @@
-use Rattle.std.proofs.Common.{◌∙◌, ◌++◌, ◌∷◌, [], ℕ, Vec, Global, ap, map, refl}
+use Rattle.std.proofs.Common.{◌∙◌, ◌∷◌, [], ℕ, Vec, Global, ap, map, refl}
 use Rattle.std.proofs.lemmas.List.{map-append}
+use Rattle.slice_rewrite.specs.Options.{options}
 use Rattle.stream_taps.specs.declared.event.Event.{Event}
 use Rattle.stream_recoder.specs.Written.{Written}
-use Rattle.stream_recoder.specs.Recoder.{waiting}
+use Rattle.stream_recoder.specs.Recoder.{options_of}
 use Rattle.stream_recoder.proofs.UnitForms.{written_form}
 use Rattle.stream_recoder.proofs.recoder.Recoder.recode.Goals as goal
 
@@ -10,18 +11,21 @@ abbrev shown : Vec ℕ Global × Event → Written
 shown w = record { form = w.0.items; event = w.1 }
 
 pub returns-clause-ok : goal.returns-clause-ok
-returns-clause-ok c =
+returns-clause-ok g c =
+    let tried = g.P.InitPick.tried in
     let r = c.args.self.now in
     let f = c.in-Ok.ensures.ok in
     let form = c.in-Ok.form in
-    let written = written_form r.plan r.sets c.unit_form.new.sets c.args.unit.now form.bytes.items form.macroblocks c.event_of-event.result f c.event_of-event.ensures in
+    let event = c.event_of-event.result in
     record {
       item = f.item;
       read = f.read;
       goes_on = f.goes_on;
-      waits = ap (map shown) c.in-Ok-push_back.ensures.items ∙ map-append shown r.forms.items ((form.bytes, c.event_of-event.result) ∷ []) ∙ ap (λ w. waiting r ++ w ∷ []) written;
+      written = shown (form.bytes, event);
+      written_is = written_form (options_of tried r) r.sets c.unit_form.new.sets c.args.unit.now form.bytes.items form.macroblocks event f c.event_of-event.ensures;
+      waits = ap (map shown) c.in-Ok-push_back.ensures.items ∙ map-append shown r.forms.items ((form.bytes, event) ∷ []);
       count = c.saturating_add-self.ensures;
       sets = f.sets_are;
       stopped = refl;
-      plan = refl;
+      options = ap (λ p. options r.plan r.init (tried p)) c.unit_form.ensures.pick;
     }

@@ -1,19 +1,21 @@
-use Rattle.std.proofs.Common.{◌≡◌, List, ℕ, ◌++◌}
+use Rattle.std.proofs.Common.{◌≡◌, List, ◌++◌}
 use Rattle.annexb_units.specs.Splitter.{waiting_count}
-use Rattle.slice_rewrite.specs.Items.{Item}
 use Rattle.stream_recoder.specs.Written.{Written}
-use Rattle.stream_recoder.specs.Recoder.{waiting, Holds}
+use Rattle.stream_recoder.specs.Recoder.{waiting, options_of}
+use Rattle.stream_recoder.proofs.Units.{Took}
 use Rattle.stream_recoder.proofs.recoder.Recoder.take_ended.Given as goal
 
 -- some units were taken, and what is written for them waits
 abbrev pub invariant-loop-unit : goal.invariant-loop-unit
-invariant-loop-unit l = record {
-  holds : (fed : List ℕ) (taken : List (List ℕ)) (items : List Item) (drained : List Written) → Holds l.fn.self fed taken items drained →
-      (more : List (List ℕ)) × (others : List Item) × Holds l.self fed more others drained;
-  grows : (more : List Written) × (waiting l.self ≡ waiting l.fn.self ++ more);
-  stopped : l.self.stopped ≡ l.fn.self.stopped;
-  plan : l.self.plan ≡ l.fn.self.plan;
-}
+invariant-loop-unit g l =
+    let tried = g.P.InitPick.tried in
+    record {
+      holds : Took tried l.fn.self l.self;
+      grows : (more : List Written) × (waiting l.self ≡ waiting l.fn.self ++ more);
+      stopped : l.self.stopped ≡ l.fn.self.stopped;
+      options : options_of tried l.self ≡ options_of tried l.fn.self;
+      pick : l.self.pick ≡ l.fn.self.pick;
+    }
 
 abbrev pub decreases-loop-unit : goal.decreases-loop-unit
-decreases-loop-unit l = waiting_count l.self.splitter
+decreases-loop-unit g l = waiting_count l.self.splitter
