@@ -9,95 +9,97 @@ use Rattle.h264_types.specs.Units.{Seen, seen}
 use Rattle.unit_io.specs.Faults.{Rose, RoseIfFailed}
 use Rattle.unit_io.specs.declared.sink.SinkFault.{SinkFault}
 use Rattle.unit_io.specs.declared.sink.SinkFault.TheVariants.{Failed as SinkFailed, Memory as SinkMemory}
-use Rattle.slice_rewrite.specs.declared.plan.Plan.{Plan}
+use Rattle.slice_rewrite.specs.Options.{Options}
+use Rattle.slice_rewrite.specs.declared.pick.Tries.{Tries}
 use Rattle.recode_run.specs.declared.account.Account.{Account}
 use Rattle.stream_recoder.specs.declared.recoder.Recoder.{Recoder}
 use Rattle.recode_run.specs.declared.status.Status.{Status}
 use Rattle.recode_run.specs.declared.status.Status.TheVariants.{WriteFault}
 use Rattle.slice_rewrite.specs.Items.{Item}
 use Rattle.slice_rewrite.specs.Verdict.{Judges, Recodes}
-use Rattle.stream_recoder.specs.Written.{Written, all_written, forms}
-use Rattle.stream_recoder.specs.Recoder.{waiting, HasRecoded, RecodesMore, RecodingStops}
+use Rattle.stream_recoder.specs.Written.{Written, AreWritten, forms}
+use Rattle.stream_recoder.specs.Recoder.{waiting, options_of, HasRecoded, RecodesMore, RecodingStops}
 use Rattle.recode_run.specs.Report.{TakesPart}
 use Rattle.recode_run.specs.Pieces.{IsReady, IsWrittenOf, PutsPart, PieceEnds, PieceDone, Notes, status_of_fault, status_of_stop}
 use Rattle.stream_recoder.proofs.Outputs.{judged-front}
 
--- ## What waits after a feed
-
--- what was written and what waits are what is written for some first units
-abbrev pub FeedLeaves : Recoder → Recoder → List ℕ → Type 0
-FeedLeaves r r1 piece = (fed : List ℕ) (written : List Written) → IsReady r r.plan fed written → IsWrittenOf r.plan (seen (fed ++ piece)) (written ++ waiting r1)
-
-leaves-ok : (r r1 : Recoder) (piece : List ℕ) → r1.plan ≡ r.plan → RecodesMore r r1 piece → FeedLeaves r r1 piece
-leaves-ok r r1 piece plan k = λ fed written h.
-    let next = k fed written h.recodes in
-    let s = seen (fed ++ piece) in
-    let P : Plan → Type 0 = λ o. Judges o [] s.units None next.items None in
-    let W : Plan → Type 0 = λ o. written ++ waiting r1 ≡ all_written o s.units next.items in
-    (s.units, [], next.items, sym (append-nil s.units), subst P plan next.holds.judged, subst W plan next.holds.written)
-
 -- what is written up to a verdict
-pub written_of_judged : (o : Plan) (s : Seen) (items : List Item) (v : Option Stopped) (written : List Written) → Recodes o s items v → written ≡ all_written o s.units items → IsWrittenOf o s written
+pub written_of_judged : (o : Options) (s : Seen) (items : List Item) (v : Option Stopped) (written : List Written) → Recodes o s items v → AreWritten o s.units items written → IsWrittenOf o s written
 written_of_judged o s items v written h e =
     let front = judged-front o [] s.units s.fault items v h in
-    (front.0, front.1, items, front.2, front.3, e ∙ front.4)
+    (front.0, front.1, items, front.2, front.3, front.4 written e)
 
-leaves-err : (r r1 : Recoder) (piece : List ℕ) (e : Stopped) → RecodingStops r r1 piece e → FeedLeaves r r1 piece
-leaves-err r r1 piece (OutsideAt unit why) k = λ fed written h.
-    let stop = k fed written h.recodes in
-    written_of_judged r.plan (seen (fed ++ piece)) stop.0 (Some (OutsideAt unit why)) (written ++ waiting r1) stop.1 stop.2
-leaves-err r r1 piece (StopAt case place) k = λ fed written h.
-    let stop = k fed written h.recodes in
-    written_of_judged r.plan (seen (fed ++ piece)) stop.0 (Some (StopAt case place)) (written ++ waiting r1) stop.1 stop.2
-leaves-err r r1 piece NoMemory k = λ fed written h.
-    let some = k fed written h.recodes in
-    (some.0, some.1, some.2, some.3, some.4, some.5)
+module _ {P : Type 0} (tried : P → Tries) where
+  -- ## What waits after a feed
 
-pub leaves : (r r1 : Recoder) (piece : List ℕ) (res : Result (Unit {0}) Stopped) → r1.plan ≡ r.plan → OnOk res (RecodesMore r r1 piece) → IfErr res (RecodingStops r r1 piece) → FeedLeaves r r1 piece
-leaves r r1 piece (Ok x) plan h k = leaves-ok r r1 piece plan h
-leaves r r1 piece (Err e) plan h k = leaves-err r r1 piece e k
+  -- what was written and what waits are what is written for some first units
+  abbrev pub FeedLeaves : Recoder P → Recoder P → List ℕ → Type 0
+  FeedLeaves r r1 piece = (fed : List ℕ) (written : List Written) → IsReady tried r (options_of tried r) fed written → IsWrittenOf (options_of tried r) (seen (fed ++ piece)) (written ++ waiting r1)
 
--- ## The three ways of a piece
+  leaves-ok : (r r1 : Recoder P) (piece : List ℕ) → options_of tried r1 ≡ options_of tried r → RecodesMore tried r r1 piece → FeedLeaves r r1 piece
+  leaves-ok r r1 piece options k = λ fed written h.
+      let next = k fed written h.recodes in
+      let s = seen (fed ++ piece) in
+      let J : Options → Type 0 = λ o. Judges o [] s.units None next.items None in
+      let W : Options → Type 0 = λ o. AreWritten o s.units next.items (written ++ waiting r1) in
+      (s.units, [], next.items, sym (append-nil s.units), subst J options next.holds.judged, subst W options next.holds.written)
 
--- fed and written
-pub piece_done : (held held' : Option (List ℕ)) (r r1 r2 : Recoder) (account account' : Account) (piece : List ℕ) → r1.plan ≡ r.plan → r2.plan ≡ r1.plan → RecodesMore r r1 piece
-    → Appends held held' (forms (waiting r1)) × (waiting r2 ≡ []) × Notes account account' (waiting r1)
-    → ((fed : List ℕ) (drained : List Written) → HasRecoded r1 fed drained → HasRecoded r2 fed (drained ++ waiting r1))
-    → (o : Plan) → PieceDone o r r2 held held' account account' piece
-piece_done held held' r r1 r2 account account' piece p q k put go o fed written h = (
-  waiting r1,
-  record { recodes = go (fed ++ piece) written (k fed written h.recodes); none = put.1; plan = q ∙ p ∙ h.plan },
-  put.0,
-  put.2,
-)
+  leaves-err : (r r1 : Recoder P) (piece : List ℕ) (e : Stopped) → RecodingStops tried r r1 piece e → FeedLeaves r r1 piece
+  leaves-err r r1 piece (OutsideAt unit why) k = λ fed written h.
+      let stop = k fed written h.recodes in
+      written_of_judged (options_of tried r) (seen (fed ++ piece)) stop.0 (Some (OutsideAt unit why)) (written ++ waiting r1) stop.1 stop.2
+  leaves-err r r1 piece (StopAt case place) k = λ fed written h.
+      let stop = k fed written h.recodes in
+      written_of_judged (options_of tried r) (seen (fed ++ piece)) stop.0 (Some (StopAt case place)) (written ++ waiting r1) stop.1 stop.2
+  leaves-err r r1 piece NoMemory k = λ fed written h.
+      let some = k fed written h.recodes in
+      (some.0, some.1, some.2, some.3, some.4, some.5)
 
--- fed up to a stop, and written
-pub piece_stops : (held held' : Option (List ℕ)) (r r1 : Recoder) (piece : List ℕ) (e : Stopped) (status : Status) → status ≡ status_of_stop e → RecodingStops r r1 piece e → Appends held held' (forms (waiting r1))
-    → (o : Plan) (fed : List ℕ) (written : List Written) → IsReady r o fed written → PieceEnds o held held' written (seen (fed ++ piece)) status
-piece_stops held held' r r1 piece e status same k put o fed written h =
-    let P : Status → Type 0 = PieceEnds r.plan held held' written (seen (fed ++ piece)) in
-    let Q : Plan → Type 0 = λ p. PieceEnds p held held' written (seen (fed ++ piece)) status in
-    subst Q h.plan (subst P (sym same) (by e k))
-  where
-    by : (e : Stopped) → RecodingStops r r1 piece e → PieceEnds r.plan held held' written (seen (fed ++ piece)) (status_of_stop e)
-    by (OutsideAt unit why) k = let stop = k fed written h.recodes in (waiting r1, stop.0, stop.1, stop.2, put)
-    by (StopAt case place) k = let stop = k fed written h.recodes in (waiting r1, stop.0, stop.1, stop.2, put)
-    by NoMemory k = (waiting r1, forms (waiting r1), [], leaves-err r r1 piece NoMemory k fed written (record { recodes = h.recodes; none = h.none; plan = refl }), put, sym (append-nil (forms (waiting r1))))
+  pub leaves : (r r1 : Recoder P) (piece : List ℕ) (res : Result (Unit {0}) Stopped) → options_of tried r1 ≡ options_of tried r → OnOk res (RecodesMore tried r r1 piece) → IfErr res (RecodingStops tried r r1 piece) → FeedLeaves r r1 piece
+  leaves r r1 piece (Ok x) options h k = leaves-ok r r1 piece options h
+  leaves r r1 piece (Err e) options h k = leaves-err r r1 piece e k
 
--- fed, and written in part
-pub piece_part : (held held' : Option (List ℕ)) (r r1 : Recoder) (piece : List ℕ) (f : SinkFault) (status : Status) → status ≡ status_of_fault f → FeedLeaves r r1 piece → TakesPart held held' (forms (waiting r1))
-    → (o : Plan) (fed : List ℕ) (written : List Written) → IsReady r o fed written → PieceEnds o held held' written (seen (fed ++ piece)) status
-piece_part held held' r r1 piece f status same k put o fed written h =
-    let P : Status → Type 0 = PieceEnds r.plan held held' written (seen (fed ++ piece)) in
-    let Q : Plan → Type 0 = λ p. PieceEnds p held held' written (seen (fed ++ piece)) status in
-    subst Q h.plan (subst P (sym same) (by f))
-  where
-    part : PutsPart r.plan held held' written (seen (fed ++ piece))
-    part = (waiting r1, take put.0 (forms (waiting r1)), drop put.0 (forms (waiting r1)), k fed written (record { recodes = h.recodes; none = h.none; plan = refl }), put.1, sym (take-append-drop put.0 (forms (waiting r1))))
+  -- ## The three ways of a piece
 
-    by : (f : SinkFault) → PieceEnds r.plan held held' written (seen (fed ++ piece)) (status_of_fault f)
-    by SinkFailed = part
-    by SinkMemory = part
+  -- fed and written
+  pub piece_done : (held held' : Option (List ℕ)) (r r1 r2 : Recoder P) (account account' : Account) (piece : List ℕ) → options_of tried r1 ≡ options_of tried r → options_of tried r2 ≡ options_of tried r1 → RecodesMore tried r r1 piece
+      → Appends held held' (forms (waiting r1)) × (waiting r2 ≡ []) × Notes account account' (waiting r1)
+      → ((fed : List ℕ) (drained : List Written) → HasRecoded tried r1 fed drained → HasRecoded tried r2 fed (drained ++ waiting r1))
+      → (o : Options) → PieceDone tried o r r2 held held' account account' piece
+  piece_done held held' r r1 r2 account account' piece p q k put go o fed written h = (
+    waiting r1,
+    record { recodes = go (fed ++ piece) written (k fed written h.recodes); none = put.1; options = q ∙ p ∙ h.options },
+    put.0,
+    put.2,
+  )
+
+  -- fed up to a stop, and written
+  pub piece_stops : (held held' : Option (List ℕ)) (r r1 : Recoder P) (piece : List ℕ) (e : Stopped) (status : Status) → status ≡ status_of_stop e → RecodingStops tried r r1 piece e → Appends held held' (forms (waiting r1))
+      → (o : Options) (fed : List ℕ) (written : List Written) → IsReady tried r o fed written → PieceEnds o held held' written (seen (fed ++ piece)) status
+  piece_stops held held' r r1 piece e status same k put o fed written h =
+      let S : Status → Type 0 = PieceEnds (options_of tried r) held held' written (seen (fed ++ piece)) in
+      let Q : Options → Type 0 = λ p. PieceEnds p held held' written (seen (fed ++ piece)) status in
+      subst Q h.options (subst S (sym same) (by e k))
+    where
+      by : (e : Stopped) → RecodingStops tried r r1 piece e → PieceEnds (options_of tried r) held held' written (seen (fed ++ piece)) (status_of_stop e)
+      by (OutsideAt unit why) k = let stop = k fed written h.recodes in (waiting r1, stop.0, stop.1, stop.2, put)
+      by (StopAt case place) k = let stop = k fed written h.recodes in (waiting r1, stop.0, stop.1, stop.2, put)
+      by NoMemory k = (waiting r1, forms (waiting r1), [], leaves-err r r1 piece NoMemory k fed written (record { recodes = h.recodes; none = h.none; options = refl }), put, sym (append-nil (forms (waiting r1))))
+
+  -- fed, and written in part
+  pub piece_part : (held held' : Option (List ℕ)) (r r1 : Recoder P) (piece : List ℕ) (f : SinkFault) (status : Status) → status ≡ status_of_fault f → FeedLeaves r r1 piece → TakesPart held held' (forms (waiting r1))
+      → (o : Options) (fed : List ℕ) (written : List Written) → IsReady tried r o fed written → PieceEnds o held held' written (seen (fed ++ piece)) status
+  piece_part held held' r r1 piece f status same k put o fed written h =
+      let S : Status → Type 0 = PieceEnds (options_of tried r) held held' written (seen (fed ++ piece)) in
+      let Q : Options → Type 0 = λ p. PieceEnds p held held' written (seen (fed ++ piece)) status in
+      subst Q h.options (subst S (sym same) (by f))
+    where
+      part : PutsPart (options_of tried r) held held' written (seen (fed ++ piece))
+      part = (waiting r1, take put.0 (forms (waiting r1)), drop put.0 (forms (waiting r1)), k fed written (record { recodes = h.recodes; none = h.none; options = refl }), put.1, sym (take-append-drop put.0 (forms (waiting r1))))
+
+      by : (f : SinkFault) → PieceEnds (options_of tried r) held held' written (seen (fed ++ piece)) (status_of_fault f)
+      by SinkFailed = part
+      by SinkMemory = part
 
 -- ## Causes
 

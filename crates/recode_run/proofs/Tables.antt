@@ -1,14 +1,24 @@
--- A text is a table's, or fails at one place.
-use Rattle.std.proofs.Common.{◌≡◌, ◌⊎◌, ◌∙◌, sym, ap, refl, inl, inr, ℕ, zero, suc, ◌+◌, ◌*◌, ◌/◌, ◌%◌, ◌<◌, ◌≤◌, Bool, true, false, nat_le, ℤ, pos, List, [], ◌∷◌, length, get_or, below_more, arith}
-use Rattle.std.specs.Prelude.{Option, Some, None, IsSome, is_some, codes, slice_get}
+-- A text is that of one table, or fails at one place.
+use Rattle.std.proofs.Common.{◌≡◌, ◌⊎◌, ◌∙◌, sym, ap, subst, refl, inl, inr, ℕ, zero, suc, ◌+◌, ◌*◌, ◌/◌, ◌%◌, ◌<◌, ◌≤◌, Bool, true, false, nat_le, ℤ, pos, List, [], ◌∷◌, map, length, get_or, below_more, arith}
+use Rattle.std.specs.Prelude.{Option, Some, None, IsSome, is_some, All, codes, slice_get}
 use Rattle.std.specs.Str.{bytes_eq}
 use Rattle.std.specs.Bool.{Decides}
 use Rattle.std.specs.Option.{option_and_then, unwrap_or}
 use Rattle.std.proofs.lemmas.Bool.{leb-true, leb-false}
 use Rattle.std.proofs.lemmas.Slice.Eq.{bytes_eq-Decides}
 use Rattle.std.proofs.lemmas.Option.{slice_get_cases}
-use Rattle.init_table.specs.TableText.{IsFlat, Writes, IsTableText, FailsAt, number_of, number_at, words}
-use Rattle.recode_run.specs.Words.{IsTable}
+use Rattle.std.proofs.lemmas.List.{ext_get_or}
+use Rattle.std.proofs.lemmas.List.FromFn.{get_or-map-range_with_len, length-map-range_with_len}
+use Rattle.std.specs.List.{range_with_len}
+use Rattle.std.proofs.Math.Nat.{ℕ_set}
+use Rattle.std.proofs.Math.Path.{fun_ext}
+use Rattle.init_table.specs.InitTable.{pair_of}
+use Rattle.init_table.specs.TableText.{IsFlat, Writes, IsTableText, IsTableOf, FailsAt, number_of, number_at, words}
+use Rattle.init_table.specs.declared.table.InitTable.{InitTable}
+
+-- the text is a table's
+abbrev pub IsTable : List ℕ → Type 0
+IsTable text = (table : InitTable) × IsTableOf text table
 
 -- ## Not both, and at one place
 
@@ -38,11 +48,11 @@ has-number text pairs w place h = by (place % 2) refl
     by (suc (suc r)) e = absurd (omega (arith, e))
 
 pub table-stands : (text : List ℕ) (at : ℕ) → IsTable text → FailsAt text at → ⊥
-table-stands text at t f = by t.1 f.no_number
+table-stands text at t f = by t.1.pairs f.no_number
   where
-    by : IsTableText text t.0 → ((at < 3680) × (number_at text at ≡ None)) ⊎ ((at ≡ 3680) × (3680 < length (words text))) → ⊥
+    by : IsTableText text (pair_of t.0) → ((at < 3680) × (number_at text at ≡ None)) ⊎ ((at ≡ 3680) × (3680 < length (words text))) → ⊥
     by (inl flat) none = f.not_flat flat.0
-    by (inr w) (inl none) = never (number_at text at) (has-number text t.0 w at none.0) none.1
+    by (inr w) (inl none) = never (number_at text at) (has-number text (pair_of t.0) w at none.0) none.1
     by (inr w) (inr more) = omega (arith, more.1, w.no_more)
 
 not-before : (text : List ℕ) (a b : ℕ) → FailsAt text a → FailsAt text b → b ≤ a
@@ -108,11 +118,59 @@ writes text all short = record {
   no_more = let last = within text 3679 (all 3679 (omega arith)) in omega (arith, last, short);
 }
 
+-- the table of these pairs
+row_of : (ℕ → ℕ → ℤ × ℤ) → ℕ → List (ℤ × ℤ)
+row_of pairs ctx = map (pairs ctx) (range_with_len 0 4)
+
+rows_of : (ℕ → ℕ → ℤ × ℤ) → ℕ → List (List (ℤ × ℤ))
+rows_of pairs n = map (row_of pairs) (range_with_len 0 n)
+
+length-rows : (pairs : ℕ → ℕ → ℤ × ℤ) (n : ℕ) → length (rows_of pairs n) ≡ n
+unfolding rows_of
+length-rows pairs n = length-map-range_with_len (row_of pairs) 0 n
+
+row-at : (pairs : ℕ → ℕ → ℤ × ℤ) (n ctx : ℕ) (d : List (ℤ × ℤ)) → ctx < n → get_or (rows_of pairs n) ctx d ≡ row_of pairs ctx
+unfolding rows_of
+row-at pairs n ctx d h = get_or-map-range_with_len (row_of pairs) 0 n ctx ctx d h (omega arith)
+
+length-row : (pairs : ℕ → ℕ → ℤ × ℤ) (ctx : ℕ) → length (row_of pairs ctx) ≡ 4
+unfolding row_of
+length-row pairs ctx = length-map-range_with_len (pairs ctx) 0 4
+
+pair-at : (pairs : ℕ → ℕ → ℤ × ℤ) (ctx column : ℕ) (d : ℤ × ℤ) → column < 4 → get_or (row_of pairs ctx) column d ≡ pairs ctx column
+unfolding row_of
+pair-at pairs ctx column d h = get_or-map-range_with_len (pairs ctx) 0 4 column column d h (omega arith)
+
+four-columns : (pairs : ℕ → ℕ → ℤ × ℤ) (n : ℕ) → All (λ row. length row ≡ 4) (rows_of pairs n)
+four-columns pairs n = λ ctx d h. ap length (row-at pairs n ctx d (omega (arith, h, length-rows pairs n))) ∙ length-row pairs ctx
+
+table_with : (ℕ → ℕ → ℤ × ℤ) → InitTable
+table_with pairs = record { pairs = rows_of pairs 460; columns = four-columns pairs 460 }
+
+pairs-of : (pairs : ℕ → ℕ → ℤ × ℤ) (ctx column : ℕ) → ctx < 460 → column < 4 → pair_of (table_with pairs) ctx column ≡ pairs ctx column
+unfolding table_with
+pairs-of pairs ctx column h k = ap (λ row. get_or row column (pos 0, pos 0)) (row-at pairs 460 ctx [] h) ∙ pair-at pairs ctx column (pos 0, pos 0) k
+
+table-of : (text : List ℕ) (pairs : ℕ → ℕ → ℤ × ℤ) → IsTableText text pairs → IsTable text
+unfolding table_with
+table-of text pairs is = (table_with pairs, record { pairs = by is; contexts = length-rows pairs 460; columns = four-columns pairs 460 })
+  where
+    at : (ctx column : ℕ) → ctx < 460 → column < 4 → pairs ctx column ≡ pair_of (table_with pairs) ctx column
+    at ctx column h k = sym (pairs-of pairs ctx column h k)
+
+    by : IsTableText text pairs → IsTableText text (pair_of (table_with pairs))
+    by (inl flat) = inl (flat.0, λ ctx column h k. pairs-of pairs ctx column h k ∙ flat.1 ctx column h k)
+    by (inr w) = inr record {
+      m_is = λ ctx column h k. w.m_is ctx column h k ∙ ap (λ p. Some p.0) (at ctx column h k);
+      n_is = λ ctx column h k. w.n_is ctx column h k ∙ ap (λ p. Some p.1) (at ctx column h k);
+      no_more = w.no_more;
+    }
+
 pub table-or_fails : (text : List ℕ) → IsTable text ⊎ ((at : ℕ) × FailsAt text at)
 table-or_fails text = by (flat-or_not (words text))
   where
     ends : (IsFlat text → ⊥) → Numbered text 3680 → (t : Bool) → nat_le (length (words text)) 3680 ≡ t → IsTable text ⊎ ((at : ℕ) × FailsAt text at)
-    ends flat all true e = inl (_, inr (writes text all (leb-true (length (words text)) 3680 e)))
+    ends flat all true e = inl (table-of text _ (inr (writes text all (leb-true (length (words text)) 3680 e))))
     ends flat all false e = inr (3680, record { not_flat = flat; numbers_before = all; no_number = inr (refl, leb-false (length (words text)) 3680 e) })
 
     numbers : (IsFlat text → ⊥) → Numbered text 3680 ⊎ FirstGap text 3680 → IsTable text ⊎ ((at : ℕ) × FailsAt text at)
@@ -120,5 +178,46 @@ table-or_fails text = by (flat-or_not (words text))
     numbers flat (inr first) = inr (first.0, record { not_flat = flat; numbers_before = first.2; no_number = inl (first.1, first.3) })
 
     by : IsFlat text ⊎ (IsFlat text → ⊥) → IsTable text ⊎ ((at : ℕ) × FailsAt text at)
-    by (inl flat) = inl ((λ ctx column. (pos 0, pos 64)), inl (flat, λ ctx column h k. refl))
+    by (inl flat) = inl (table-of text (λ ctx column. (pos 0, pos 64)) (inl (flat, λ ctx column h k. refl)))
     by (inr flat) = numbers flat (first-gap text 3680)
+
+-- ## One table
+
+same-pair : (p q : ℤ × ℤ) → Some p.0 ≡ Some q.0 → Some p.1 ≡ Some q.1 → p ≡ q
+same-pair p q e f =
+    let m : p.0 ≡ q.0 = cc in
+    let n : p.1 ≡ q.1 = cc in
+    ap (λ x. let pair : ℤ × ℤ = (x, p.1) in pair) m ∙ ap (λ x. let pair : ℤ × ℤ = (q.0, x) in pair) n
+
+not-both : (text : List ℕ) → IsFlat text → length (words text) ≡ 3680 → ⊥
+not-both text flat many = omega (arith, ap length flat, many)
+
+same-pairs : (text : List ℕ) (p q : ℕ → ℕ → ℤ × ℤ) → IsTableText text p → IsTableText text q → (ctx column : ℕ) → ctx < 460 → column < 4 → p ctx column ≡ q ctx column
+same-pairs text p q (inl f) (inl g) ctx column h k = f.1 ctx column h k ∙ sym (g.1 ctx column h k)
+same-pairs text p q (inl f) (inr w) ctx column h k = absurd (not-both text f.0 w.no_more)
+same-pairs text p q (inr v) (inl g) ctx column h k = absurd (not-both text g.0 v.no_more)
+same-pairs text p q (inr v) (inr w) ctx column h k =
+    same-pair (p ctx column) (q ctx column) (sym (v.m_is ctx column h k) ∙ w.m_is ctx column h k) (sym (v.n_is ctx column h k) ∙ w.n_is ctx column h k)
+
+same-rows : (text : List ℕ) (a b : InitTable) → IsTableOf text a → IsTableOf text b → a.pairs ≡ b.pairs
+same-rows text a b x y = ext_get_or [] a.pairs b.pairs (x.contexts ∙ sym y.contexts) row
+  where
+    row : (ctx : ℕ) → ctx < length a.pairs → get_or a.pairs ctx [] ≡ get_or b.pairs ctx []
+    row ctx h =
+        let here : ctx < 460 = omega (arith, h, x.contexts) in
+        let four : length (get_or a.pairs ctx []) ≡ 4 = x.columns ctx [] h in
+        let also : length (get_or b.pairs ctx []) ≡ 4 = y.columns ctx [] (omega (arith, here, y.contexts)) in
+        ext_get_or (pos 0, pos 0) (get_or a.pairs ctx []) (get_or b.pairs ctx []) (four ∙ sym also)
+        (λ column k. same-pairs text (pair_of a) (pair_of b) x.pairs y.pairs ctx column here (omega (arith, k, four)))
+
+-- that each context has four columns has one proof
+columns-once : (rows : List (List (ℤ × ℤ))) (p q : All (λ row. length row ≡ 4) rows) → p ≡ q
+columns-once rows p q = fun_ext (λ ctx. fun_ext (λ d. fun_ext (λ h. ℕ_set (length (get_or rows ctx d)) 4 (p ctx d h) (q ctx d h))))
+
+same_table : (a : InitTable) (rows : List (List (ℤ × ℤ))) → a.pairs ≡ rows → (columns : All (λ row. length row ≡ 4) rows) → a ≡ record { pairs = rows; columns = columns }
+same_table a rows e =
+    let P : List (List (ℤ × ℤ)) → Type 0 = λ v. (columns : All (λ row. length row ≡ 4) v) → a ≡ record { pairs = v; columns = columns } in
+    subst P e (λ columns. ap (λ c. let table : InitTable = record { pairs = a.pairs; columns = c } in table) (columns-once a.pairs a.columns columns))
+
+pub one-table : (text : List ℕ) (a b : InitTable) → IsTableOf text a → IsTableOf text b → a ≡ b
+one-table text a b x y = same_table a b.pairs (same-rows text a b x y) b.columns

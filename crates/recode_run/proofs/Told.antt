@@ -10,21 +10,24 @@ use Rattle.h264_types.specs.declared.fault.Stopped.{Stopped}
 use Rattle.h264_types.specs.declared.fault.Stopped.TheVariants.{Stop as StopAt, Outside as OutsideAt, Memory as NoMemory}
 use Rattle.h264_types.specs.Units.{Seen, seen, seen_whole}
 use Rattle.h264_types.proofs.Stays.{seen-stays}
-use Rattle.slice_rewrite.specs.declared.plan.Plan.{Plan}
+use Rattle.init_table.specs.TableText.{IsTableOf}
+use Rattle.init_table.specs.declared.table.InitTable.{InitTable}
+use Rattle.slice_rewrite.specs.Options.{Options}
 use Rattle.recode_run.specs.declared.account.Account.{Account}
 use Rattle.recode_run.specs.declared.status.Status.{Status}
 use Rattle.recode_run.specs.declared.status.Status.TheVariants.{Ok as Done, BadWords, ReadFault, WriteFault, Stop, Outside, TooMuch, Memory, ReportFault, BadTable}
 use Rattle.slice_rewrite.specs.Items.{Item}
 use Rattle.slice_rewrite.specs.Verdict.{Judges, Recodes}
-use Rattle.slice_rewrite.specs.Written.{output}
+use Rattle.slice_rewrite.specs.Written.{IsOutput}
+use Rattle.stream_recoder.specs.Written.{forms}
 use Rattle.recode_run.specs.Report.{Reports}
 use Rattle.recode_run.specs.Words.{Request}
-use Rattle.recode_run.specs.Run.{plan_to, RunEnds, IsPartlyWritten, EndsEarly, IsBadTable, Ran, IsNoReport, RunAnswers, judged, IsFront, StopsAt, Passes, Leaves, LeavesBy, IsTold, IsDueTo, IsDue, IsFault, IsExact, IsPromptFor, IsPrompt}
+use Rattle.recode_run.specs.Run.{run_to, Gains, RunEnds, IsPartlyWritten, EndsEarly, IsBadTable, Ran, IsNoReport, RunAnswers, judged, IsFront, StopsAt, Passes, Leaves, LeavesBy, IsTold, IsDueTo, IsDue, IsFault, IsExact, IsPromptFor, IsPrompt}
 use Rattle.slice_rewrite.proofs.Judging.{one-verdict, verdict-stays}
-use Rattle.stream_recoder.proofs.Outputs.{output-same, output-front, output-stays}
+use Rattle.stream_recoder.proofs.Outputs.{output_is, output-same, output-stays}
 use Rattle.recode_run.proofs.Reading.{appends-at}
 use Rattle.recode_run.proofs.Flush.{partly, ends-kept, none_begun}
-use Rattle.recode_run.proofs.Tables.{table-stands, fails-once}
+use Rattle.recode_run.proofs.Tables.{table-stands, fails-once, one-table}
 
 -- ## What is judged
 
@@ -69,27 +72,20 @@ whole-of bound b left' given h fits end =
 
 -- ## What is left, answer by answer
 
--- of what is judged, what was written of some first units is a front
-front-of : (o : Plan) (s : Seen) (units later : List (List ℕ)) (read : List Item) (bytes rest : List ℕ) → s.units ≡ units ++ later → Judges o [] units None read None → output o units read ≡ bytes ++ rest → IsFront o s bytes
-front-of o s units later read bytes rest e h out = λ items verdict j.
-    let P : List (List ℕ) → Type 0 = λ us. Judges o [] us s.fault items verdict in
-    let front = output-front o units later s.fault read items verdict h (subst P e j) in
-    (rest ++ front.0, ap (λ us. output o us items) e ∙ front.1 ∙ ap (λ v. v ++ front.0) out ∙ append_assoc bytes rest front.0)
-
 -- with more bytes the units that have ended stay
-front-stays : (o : Plan) (b c : List ℕ) (units later : List (List ℕ)) (read : List Item) (bytes rest : List ℕ) → (seen b).units ≡ units ++ later → Judges o [] units None read None → output o units read ≡ bytes ++ rest → IsFront o (seen (b ++ c)) bytes
+front-stays : (o : Options) (b c : List ℕ) (units later : List (List ℕ)) (read : List Item) (bytes rest : List ℕ) → (seen b).units ≡ units ++ later → Judges o [] units None read None → IsOutput o units read (bytes ++ rest) → IsFront o (seen (b ++ c)) bytes
 front-stays o b c units later read bytes rest e h out =
     let stays = (seen-stays b c).units in
-    front-of o (seen (b ++ c)) units (later ++ stays.0) read bytes rest (stays.1 ∙ ap (λ v. v ++ stays.0) e ∙ append_assoc units later stays.0) h out
+    (units, later ++ stays.0, read, rest, stays.1 ∙ ap (λ v. v ++ stays.0) e ∙ append_assoc units later stays.0, h, out)
 
-partly_told : (o : Plan) (bound : ℕ) (b : List ℕ) (left' held held' : Option (List ℕ)) → IsPartlyWritten o bound (Some b) left' held held' → (more : List ℕ) × Appends held held' more × IsFront o (judged bound b) more
+partly_told : (o : Options) (bound : ℕ) (b : List ℕ) (left' held held' : Option (List ℕ)) → IsPartlyWritten o bound (Some b) left' held held' → (more : List ℕ) × Appends held held' more × IsFront o (judged bound b) more
 partly_told o bound b left' held held' h = (done, h.appended, by h.which)
   where
     x : List ℕ
     x = h.given ++ h.last
 
     done : List ℕ
-    done = output o (seen h.given).units h.items ++ h.more
+    done = h.early ++ h.more
 
     by : (h.all ≡ seen (h.given ++ h.last)) ⊎ ((h.all ≡ seen_whole (h.given ++ h.last)) × (h.over ≡ []) × IsAtEnd left') → IsFront o (judged bound b) done
     by (inl e) =
@@ -100,9 +96,9 @@ partly_told o bound b left' held held' h = (done, h.appended, by h.which)
     by (inr e) =
         let c : Consumes (Some b) left' x = let P : List ℕ → Type 0 = Consumes (Some b) left' in subst P (ap (λ v. x ++ v) e.1 ∙ append-nil x) h.consumed in
         let P : Seen → Type 0 = λ v. IsFront o v done in
-        subst P (e.0 ∙ whole-of bound b left' x c h.within e.2) (front-of o h.all h.units h.later h.read done h.rest h.first h.read_is h.written)
+        subst P (e.0 ∙ whole-of bound b left' x c h.within e.2) (h.units, h.later, h.read, h.rest, h.first, h.read_is, h.written)
 
-early_told : (o : Plan) (bound : ℕ) (b : List ℕ) (left' held held' : Option (List ℕ)) (stopped : Stopped) → EndsEarly o bound (Some b) left' held held' stopped → StopsAt o (judged bound b) held held' stopped
+early_told : (o : Options) (bound : ℕ) (b : List ℕ) (left' held held' : Option (List ℕ)) (stopped : Stopped) → EndsEarly o bound (Some b) left' held held' stopped → StopsAt o (judged bound b) held held' stopped
 early_told o bound b left' held held' stopped h = by h.which
   where
     x : List ℕ
@@ -115,15 +111,15 @@ early_told o bound b left' held held' stopped h = by h.which
     by (inl e) =
         let s = split_of b left' x h.consumed in
         let k = judged-of bound b x s.0 s.2 h.within in
-        let Q : Seen → Type 0 = λ v. Recodes o v h.read (Some stopped) × Appends held held' (output o v.units h.read) in
+        let Q : Seen → Type 0 = λ v. Recodes o v h.read (Some stopped) × Gains o v.units h.read held held' in
         let here = subst Q e (h.ends, h.written) in
         let later = verdict-stays o x k.0 h.read stopped here.0 in
-        let same = output-same o x k.0 h.read stopped here.0 in
+        let out = output-same o x k.0 h.read stopped here.1.0 here.0 here.1.1 in
         let R : Seen → Type 0 = P in
-        subst R (sym k.1) (h.read, later, appends-at held held' (output o (seen x).units h.read) (output o (seen (x ++ k.0)).units h.read) (sym same) here.1)
+        subst R (sym k.1) (h.read, later, (here.1.0, out, here.1.2))
     by (inr e) = let Q : Seen → Type 0 = P in subst Q (e.0 ∙ whole-of bound b left' x h.consumed h.within e.1) (h.read, h.ends, h.written)
 
-pub told : (o : Plan) (bound : ℕ) (b : List ℕ) (left' held held' : Option (List ℕ)) (account : Account) (status : Status) → RunEnds o bound (Some b) left' held held' account status → Leaves o bound b left' held held' status
+pub told : (o : Options) (bound : ℕ) (b : List ℕ) (left' held held' : Option (List ℕ)) (account : Account) (status : Status) → RunEnds o bound (Some b) left' held held' account status → Leaves o bound b left' held held' status
 told o bound b left' held held' account Done h =
     let s = split_of b left' h.0 h.2 in
     let none : s.0 ≡ [] = at_end left' s.0 s.1 h.3 in
@@ -131,7 +127,7 @@ told o bound b left' held held' account Done h =
     let fits : length b ≤ bound = omega (arith, h.4, ap length all) in
     let same : seen_whole h.0 ≡ judged bound b = ap seen_whole all ∙ sym (judged-all bound b fits) in
     let P : Seen → Type 0 = λ v. Passes o v held held' in
-    (fits, s.1 ∙ ap (λ v. Some v) none, subst P same (h.1, h.5, h.6))
+    (fits, s.1 ∙ ap (λ v. Some v) none, subst P same (h.1, h.5, (forms h.6.0, output_is o (seen_whole h.0).units h.1 h.6.0 h.6.1, h.6.2)))
 told o bound b left' held held' account (Outside unit why) h = early_told o bound b left' held held' (OutsideAt unit why) h
 told o bound b left' held held' account (Stop case place) h = early_told o bound b left' held held' (StopAt case place) h
 told o bound b left' held held' account TooMuch h =
@@ -157,7 +153,7 @@ kept_left b (Some c) h = ap (λ v. Some v) h
 -- what is left, whatever the words
 left_by : (asked : Option Request) (bound : ℕ) (b : List ℕ) (left' held held' : Option (List ℕ)) (account : Account) (status : Status) → Ran asked bound (Some b) left' held held' account status → LeavesBy asked bound b left' held held' status
 left_by (Some asked) bound b left' held held' account status (inl h) = inl (h.0, kept_left b left' h.1, h.2)
-left_by (Some asked) bound b left' held held' account status (inr h) = inr (h.0, told (plan_to asked.to) bound b left' held held' account status h.1)
+left_by (Some asked) bound b left' held held' account status (inr h) = inr (h.0, h.1, told (run_to asked.to h.0) bound b left' held held' account status h.2)
 left_by None bound b left' held held' account status h = (h.0, kept_left b left' h.1, h.2)
 
 -- the answer is that of the run, or the report's
@@ -184,10 +180,10 @@ no-report-is-fault : (answer : Status) → IsNoReport answer → IsFault answer
 no-report-is-fault answer (inl e) = inr (inr (inr e))
 no-report-is-fault answer (inr e) = inl e
 
-by_none : {A : Type 0} → (o : Plan) (s : Seen) (is js : List Item) (v : Stopped) → Recodes o s is None → Recodes o s js (Some v) → A
+by_none : {A : Type 0} → (o : Options) (s : Seen) (is js : List Item) (v : Stopped) → Recodes o s is None → Recodes o s js (Some v) → A
 by_none o s is js v a b = absurd (let e = (one-verdict o [] s.units s.fault is js None (Some v) a b).1 in cc)
 
-one_stop : (o : Plan) (s : Seen) (is js : List Item) (v w : Stopped) → Recodes o s is (Some v) → Recodes o s js (Some w) → v ≡ w
+one_stop : (o : Options) (s : Seen) (is js : List Item) (v w : Stopped) → Recodes o s is (Some v) → Recodes o s js (Some w) → v ≡ w
 one_stop o s is js v w a b = let e = (one-verdict o [] s.units s.fault is js (Some v) (Some w) a b).1 in cc
 
 -- a verdict, as an answer
@@ -196,40 +192,61 @@ answer_at (StopAt case place) = Stop case place
 answer_at (OutsideAt unit why) = Outside unit why
 answer_at NoMemory = Memory
 
+-- one status is due
+pub run-once : (o : Options) (bound : ℕ) (b : List ℕ) (first second : Status) → IsDueTo o bound b first → IsDueTo o bound b second → first ≡ second
+run-once o bound b Done Done h d = refl
+run-once o bound b Done TooMuch h d = absurd (omega (arith, h.0, d.0))
+run-once o bound b Done (Outside unit why) h d = by_none o (judged bound b) h.1.0 d.0 (OutsideAt unit why) h.1.1 d.1
+run-once o bound b Done (Stop case place) h d = by_none o (judged bound b) h.1.0 d.0 (StopAt case place) h.1.1 d.1
+run-once o bound b TooMuch Done h d = absurd (omega (arith, h.0, d.0))
+run-once o bound b TooMuch TooMuch h d = refl
+run-once o bound b TooMuch (Outside unit why) h d = by_none o (judged bound b) h.1.0 d.0 (OutsideAt unit why) h.1.1 d.1
+run-once o bound b TooMuch (Stop case place) h d = by_none o (judged bound b) h.1.0 d.0 (StopAt case place) h.1.1 d.1
+run-once o bound b (Outside unit why) Done h d = by_none o (judged bound b) d.1.0 h.0 (OutsideAt unit why) d.1.1 h.1
+run-once o bound b (Outside unit why) TooMuch h d = by_none o (judged bound b) d.1.0 h.0 (OutsideAt unit why) d.1.1 h.1
+run-once o bound b (Outside unit why) (Outside m other) h d = ap answer_at (one_stop o (judged bound b) h.0 d.0 (OutsideAt unit why) (OutsideAt m other) h.1 d.1)
+run-once o bound b (Outside unit why) (Stop case place) h d = ap answer_at (one_stop o (judged bound b) h.0 d.0 (OutsideAt unit why) (StopAt case place) h.1 d.1)
+run-once o bound b (Stop case place) Done h d = by_none o (judged bound b) d.1.0 h.0 (StopAt case place) d.1.1 h.1
+run-once o bound b (Stop case place) TooMuch h d = by_none o (judged bound b) d.1.0 h.0 (StopAt case place) d.1.1 h.1
+run-once o bound b (Stop case place) (Outside unit why) h d = ap answer_at (one_stop o (judged bound b) h.0 d.0 (StopAt case place) (OutsideAt unit why) h.1 d.1)
+run-once o bound b (Stop case place) (Stop other there) h d = ap answer_at (one_stop o (judged bound b) h.0 d.0 (StopAt case place) (StopAt other there) h.1 d.1)
+run-once o bound b first BadWords h d = absurd d
+run-once o bound b first ReadFault h d = absurd d
+run-once o bound b first WriteFault h d = absurd d
+run-once o bound b first Memory h d = absurd d
+run-once o bound b first ReportFault h d = absurd d
+run-once o bound b first (BadTable at) h d = absurd d
+run-once o bound b BadWords second h d = absurd h
+run-once o bound b ReadFault second h d = absurd h
+run-once o bound b WriteFault second h d = absurd h
+run-once o bound b Memory second h d = absurd h
+run-once o bound b ReportFault second h d = absurd h
+run-once o bound b (BadTable at) second h d = absurd h
+
+-- what a run leaves is due, but for faults
+leaves-due : (o : Options) (bound : ℕ) (b : List ℕ) (left' held held' : Option (List ℕ)) (status : Status) → Leaves o bound b left' held held' status → IsDueTo o bound b status ⊎ IsFault status
+leaves-due o bound b left' held held' Done h = inl (h.0, (h.2.0, h.2.1))
+leaves-due o bound b left' held held' TooMuch h = inl (h.0, (h.1.0, h.1.1))
+leaves-due o bound b left' held held' (Outside unit why) h = inl (h.0, h.1)
+leaves-due o bound b left' held held' (Stop case place) h = inl (h.0, h.1)
+leaves-due o bound b left' held held' ReadFault h = inr (inr (inl refl))
+leaves-due o bound b left' held held' WriteFault h = inr (inr (inr (inl refl)))
+leaves-due o bound b left' held held' Memory h = inr (inl refl)
+leaves-due o bound b left' held held' BadWords h = absurd h
+leaves-due o bound b left' held held' ReportFault h = absurd h
+leaves-due o bound b left' held held' (BadTable at) h = absurd h
+
 -- the status of a run is the one that is due, or a fault
-pub due-run : (layer : Layer) (bound : ℕ) (b : List ℕ) (left' held held' : Option (List ℕ)) (status due : Status) → Leaves (plan_to layer) bound b left' held held' status → IsDueTo layer bound b due → (status ≡ due) ⊎ IsFault status
-due-run layer bound b left' held held' ReadFault due h d = inr (inr (inl refl))
-due-run layer bound b left' held held' WriteFault due h d = inr (inr (inr (inl refl)))
-due-run layer bound b left' held held' Memory due h d = inr (inl refl)
-due-run layer bound b left' held held' BadWords due h d = absurd h
-due-run layer bound b left' held held' ReportFault due h d = absurd h
-due-run layer bound b left' held held' (BadTable at) due h d = absurd h
-due-run layer bound b left' held held' Done Done h d = inl refl
-due-run layer bound b left' held held' Done TooMuch h d = absurd (omega (arith, h.0, d.0))
-due-run layer bound b left' held held' Done (Outside unit why) h d = by_none (plan_to layer) (judged bound b) h.2.0 d.0 (OutsideAt unit why) h.2.1 d.1
-due-run layer bound b left' held held' Done (Stop case place) h d = by_none (plan_to layer) (judged bound b) h.2.0 d.0 (StopAt case place) h.2.1 d.1
-due-run layer bound b left' held held' TooMuch Done h d = absurd (omega (arith, h.0, d.0))
-due-run layer bound b left' held held' TooMuch TooMuch h d = inl refl
-due-run layer bound b left' held held' TooMuch (Outside unit why) h d = by_none (plan_to layer) (judged bound b) h.1.0 d.0 (OutsideAt unit why) h.1.1 d.1
-due-run layer bound b left' held held' TooMuch (Stop case place) h d = by_none (plan_to layer) (judged bound b) h.1.0 d.0 (StopAt case place) h.1.1 d.1
-due-run layer bound b left' held held' (Outside unit why) Done h d = by_none (plan_to layer) (judged bound b) d.1.0 h.0 (OutsideAt unit why) d.1.1 h.1
-due-run layer bound b left' held held' (Outside unit why) TooMuch h d = by_none (plan_to layer) (judged bound b) d.1.0 h.0 (OutsideAt unit why) d.1.1 h.1
-due-run layer bound b left' held held' (Outside unit why) (Outside m other) h d =
-    inl (ap answer_at (one_stop (plan_to layer) (judged bound b) h.0 d.0 (OutsideAt unit why) (OutsideAt m other) h.1 d.1))
-due-run layer bound b left' held held' (Outside unit why) (Stop case place) h d =
-    inl (ap answer_at (one_stop (plan_to layer) (judged bound b) h.0 d.0 (OutsideAt unit why) (StopAt case place) h.1 d.1))
-due-run layer bound b left' held held' (Stop case place) Done h d = by_none (plan_to layer) (judged bound b) d.1.0 h.0 (StopAt case place) d.1.1 h.1
-due-run layer bound b left' held held' (Stop case place) TooMuch h d = by_none (plan_to layer) (judged bound b) d.1.0 h.0 (StopAt case place) d.1.1 h.1
-due-run layer bound b left' held held' (Stop case place) (Outside unit why) h d =
-    inl (ap answer_at (one_stop (plan_to layer) (judged bound b) h.0 d.0 (StopAt case place) (OutsideAt unit why) h.1 d.1))
-due-run layer bound b left' held held' (Stop case place) (Stop other there) h d =
-    inl (ap answer_at (one_stop (plan_to layer) (judged bound b) h.0 d.0 (StopAt case place) (StopAt other there) h.1 d.1))
-due-run layer bound b left' held held' status BadWords h d = absurd d
-due-run layer bound b left' held held' status ReadFault h d = absurd d
-due-run layer bound b left' held held' status WriteFault h d = absurd d
-due-run layer bound b left' held held' status Memory h d = absurd d
-due-run layer bound b left' held held' status ReportFault h d = absurd d
-due-run layer bound b left' held held' status (BadTable at) h d = absurd d
+due-run : (o : Options) (bound : ℕ) (b : List ℕ) (left' held held' : Option (List ℕ)) (status due : Status) → Leaves o bound b left' held held' status → IsDueTo o bound b due → (status ≡ due) ⊎ IsFault status
+due-run o bound b left' held held' status due h d = by (leaves-due o bound b left' held held' status h)
+  where
+    by : IsDueTo o bound b status ⊎ IsFault status → (status ≡ due) ⊎ IsFault status
+    by (inl same) = inl (run-once o bound b status due same d)
+    by (inr fault) = inr fault
+
+-- whatever table the text has, it is this one
+pub due-at : (layer : Layer) (text : List ℕ) (init other : InitTable) (bound : ℕ) (b : List ℕ) (due : Status) → IsTableOf text init → IsTableOf text other → IsDueTo (run_to layer other) bound b due → IsDueTo (run_to layer init) bound b due
+due-at layer text init other bound b due is also d = let P : InitTable → Type 0 = λ table. IsDueTo (run_to layer table) bound b due in subst P (one-table text other init also is) d
 
 -- a text fails at one place
 pub bad-once : (text : List ℕ) (first second : Status) → IsBadTable text first → IsBadTable text second → first ≡ second
@@ -237,9 +254,10 @@ bad-once text first second x y = x.2 ∙ ap (λ at. BadTable at) (fails-once tex
 
 due-by : (asked : Option Request) (bound : ℕ) (b : List ℕ) (left' held held' : Option (List ℕ)) (status due : Status) → LeavesBy asked bound b left' held held' status → IsDue asked bound b due → (status ≡ due) ⊎ IsFault status
 due-by (Some asked) bound b left' held held' status due (inl h) (inl d) = inl (bad-once asked.table status due h.0 d)
-due-by (Some asked) bound b left' held held' status due (inl h) (inr d) = absurd (table-stands asked.table h.0.0 d.0 h.0.1)
-due-by (Some asked) bound b left' held held' status due (inr h) (inl d) = absurd (table-stands asked.table d.0 h.0 d.1)
-due-by (Some asked) bound b left' held held' status due (inr h) (inr d) = due-run asked.to bound b left' held held' status due h.1 d.1
+due-by (Some asked) bound b left' held held' status due (inl h) (inr d) = absurd (table-stands asked.table h.0.0 (d.0, d.1) h.0.1)
+due-by (Some asked) bound b left' held held' status due (inr h) (inl d) = absurd (table-stands asked.table d.0 (h.0, h.1) d.1)
+due-by (Some asked) bound b left' held held' status due (inr h) (inr d) =
+    due-run (run_to asked.to h.0) bound b left' held held' status due h.2 (due-at asked.to asked.table h.0 d.0 bound b due h.1 d.1 d.2)
 due-by None bound b left' held held' status due h d = inl (h.0 ∙ sym d)
 
 due-answer : (status due answer : Status) → (answer ≡ status) ⊎ IsNoReport answer → (status ≡ due) ⊎ IsFault status → (answer ≡ due) ⊎ IsFault answer
@@ -253,8 +271,12 @@ is_exact asked bound (Some b) left' held held' answer h = λ due d. due-answer h
 
 -- ## Output follows its input
 
+-- what was put begins with the first of what it begins with
+begins-earlier : (held held' : Option (List ℕ)) (early more first rest : List ℕ) → early ≡ first ++ rest → Appends held held' (early ++ more) → Appends held held' (first ++ (rest ++ more))
+begins-earlier held held' early more first rest e h = appends-at held held' (early ++ more) (first ++ (rest ++ more)) (ap (λ v. v ++ more) e ∙ append_assoc first rest more) h
+
 -- the bytes taken, but the last 65,536 of them, are the first of those given before the last piece
-early_part : (o : Plan) (bound : ℕ) (b : List ℕ) (left' held held' : Option (List ℕ)) → IsPartlyWritten o bound (Some b) left' held held' → IsPromptFor o b left' held held'
+early_part : (o : Options) (bound : ℕ) (b : List ℕ) (left' held held' : Option (List ℕ)) → IsPartlyWritten o bound (Some b) left' held held' → IsPromptFor o b left' held held'
 early_part o bound b left' held held' h taken rest e f items verdict j =
     let s = split_of b left' ((h.given ++ h.last) ++ h.over) h.consumed in
     let same_rest : rest ≡ s.0 = let both : Some rest ≡ Some s.0 = sym f ∙ s.1 in cc in
@@ -266,28 +288,31 @@ early_part o bound b left' held held' h taken rest e f items verdict j =
     let front : take n taken ≡ take n h.given = ap (take n) spread ∙ take-append-le n h.given (h.last ++ h.over) short in
     let P : List ℕ → Type 0 = λ x. Recodes o (seen x) items verdict in
     let Q : List ℕ → Type 0 = λ x. Recodes o (seen x) h.items None in
+    let W : List ℕ → Type 0 = λ x. IsOutput o (seen x).units h.items h.early in
     let back : h.given ≡ take n h.given ++ drop n h.given = sym (take-append-drop n h.given) in
-    let grows = output-stays o (take n h.given) (drop n h.given) items h.items verdict None (subst P front j) (subst Q back h.judged) in
-    let done : output o (seen h.given).units h.items ≡ output o (seen (take n taken)).units items ++ grows.0 =
-    ap (λ x. output o (seen x).units h.items) back ∙ grows.1 ∙ ap (λ x. output o (seen x).units items ++ grows.0) (sym front) in (
-      grows.0 ++ h.more,
-      appends-at held held' (output o (seen h.given).units h.items ++ h.more) (output o (seen (take n taken)).units items ++ (grows.0 ++ h.more))
-          (ap (λ v. v ++ h.more) done ∙ append_assoc (output o (seen (take n taken)).units items) grows.0 h.more) h.appended,
+    let done = output-stays o (take n h.given) (drop n h.given) items h.items verdict None h.early (subst P front j) (subst Q back h.judged) (subst W back h.early_is) in
+    let F : List ℕ → Type 0 = λ x. IsOutput o (seen x).units items done.0 in (
+      done.0,
+      done.1 ++ h.more,
+      subst F (sym front) done.2,
+      begins-earlier held held' h.early h.more done.0 done.1 done.3 h.appended,
     )
 
 -- of a source that wasn't read all that is due was written
-unread_part : (o : Plan) (bound : ℕ) (b : List ℕ) (left' held held' : Option (List ℕ)) (account : Account) → Keeps (Some b) left' → Keeps held held' → IsPromptFor o b left' held held'
+unread_part : (o : Options) (bound : ℕ) (b : List ℕ) (left' held held' : Option (List ℕ)) (account : Account) → Keeps (Some b) left' → Keeps held held' → IsPromptFor o b left' held held'
 unread_part o bound b left' held held' account h k =
     let P : Option (List ℕ) → Type 0 = λ l. RunEnds o bound (Some b) l held held' account Memory in
     let none : RunEnds o bound (Some b) (Some b) held held' account Memory = ends-kept o bound (Some b) (Some b) held held held' account Memory (none_begun o bound (Some b) held account) k in
     early_part o bound b left' held held' (subst P (sym (kept_left b left' h)) none)
 
 pub is_prompt : (asked : Option Request) (bound : ℕ) (left left' held held' report report' : Option (List ℕ)) (answer : Status) → RunAnswers asked bound left left' held held' report report' answer → IsPrompt asked left left' held held'
-is_prompt (Some asked) bound (Some b) left' held held' report report' answer h = by h.2
+is_prompt (Some asked) bound (Some b) left' held held' report report' answer h = λ init is. by init is h.2
   where
-    by : Ran (Some asked) bound (Some b) left' held held' h.1 h.0 → IsPromptFor (plan_to asked.to) b left' held held'
-    by (inl unread) = unread_part (plan_to asked.to) bound b left' held held' h.1 unread.1 unread.2
-    by (inr ran) = early_part (plan_to asked.to) bound b left' held held' (partly (plan_to asked.to) bound (Some b) left' held held' h.1 h.0 ran.1)
+    by : (init : InitTable) → IsTableOf asked.table init → Ran (Some asked) bound (Some b) left' held held' h.1 h.0 → IsPromptFor (run_to asked.to init) b left' held held'
+    by init is (inl unread) = unread_part (run_to asked.to init) bound b left' held held' h.1 unread.1 unread.2
+    by init is (inr ran) =
+        let P : InitTable → Type 0 = λ table. IsPromptFor (run_to asked.to table) b left' held held' in
+        subst P (one-table asked.table ran.0 init ran.1 is) (early_part (run_to asked.to ran.0) bound b left' held held' (partly (run_to asked.to ran.0) bound (Some b) left' held held' h.1 h.0 ran.2))
 is_prompt (Some asked) bound None left' held held' report report' answer h = tt
 is_prompt None bound (Some b) left' held held' report report' answer h = tt
 is_prompt None bound None left' held held' report report' answer h = tt

@@ -7,43 +7,44 @@ use Rattle.h264_types.specs.Units.{Seen}
 use Rattle.stream_taps.specs.declared.event.Event.{Event}
 use Rattle.unit_io.specs.declared.sink.SinkFault.{SinkFault}
 use Rattle.unit_io.specs.declared.sink.SinkFault.TheVariants.{Failed as SinkFailed, Memory as SinkMemory}
-use Rattle.slice_rewrite.specs.declared.plan.Plan.{Plan}
+use Rattle.slice_rewrite.specs.Options.{Options}
+use Rattle.slice_rewrite.specs.declared.pick.Tries.{Tries}
 use Rattle.recode_run.specs.declared.account.Account.{Account}
 use Rattle.stream_recoder.specs.declared.recoder.Recoder.{Recoder}
 use Rattle.recode_run.specs.declared.status.Status.{Status}
 use Rattle.recode_run.specs.declared.status.Status.TheVariants.{WriteFault, Stop, Outside, Memory}
 use Rattle.slice_rewrite.specs.Items.{Item}
 use Rattle.slice_rewrite.specs.Verdict.{Judges, Recodes}
-use Rattle.stream_recoder.specs.Written.{Written, all_written, forms}
+use Rattle.stream_recoder.specs.Written.{Written, AreWritten, forms}
 use Rattle.recode_run.specs.Account.{account_of}
-use Rattle.stream_recoder.specs.Recoder.{HasRecoded, waiting, plan_of}
+use Rattle.stream_recoder.specs.Recoder.{HasRecoded, waiting, options_of}
 
 -- the recoder was fed these bytes, they have no verdict yet, and all that is written for their units was drained
-pub record IsReady (r : Recoder) (o : Plan) (fed : List ℕ) (written : List Written) : Type 0 where
-  pub recodes : HasRecoded r fed written
+pub record IsReady {P : Type 0} (tried : P → Tries) (r : Recoder P) (o : Options) (fed : List ℕ) (written : List Written) : Type 0 where
+  pub recodes : HasRecoded tried r fed written
   pub none : waiting r ≡ []
-  pub plan : plan_of r ≡ o
+  pub options : options_of tried r ≡ o
 
 -- this is what is written for some first units
-abbrev pub IsWrittenOf : Plan → Seen → List Written → Type 0
+abbrev pub IsWrittenOf : Options → Seen → List Written → Type 0
 IsWrittenOf o s written = (units : List (List ℕ)) × (later : List (List ℕ)) × (items : List Item) × (s.units ≡ units ++ later) × Judges o [] units None items None
-    × (written ≡ all_written o units items)
+    × AreWritten o units items written
 
 -- the account counts these too
 abbrev pub Notes : Account → Account → List Written → Type 0
 Notes account account' written = (read : ℕ) (events : List Event) → account ≡ account_of read events → account' ≡ account_of read (events ++ map (λ w. w.event) written)
 
 -- some bytes were put, which are the first of what is written for some first units
-abbrev pub PutsPart : Plan → Option (List ℕ) → Option (List ℕ) → List Written → Seen → Type 0
+abbrev pub PutsPart : Options → Option (List ℕ) → Option (List ℕ) → List Written → Seen → Type 0
 PutsPart o held held' written s = (more : List Written) × (put : List ℕ) × (rest : List ℕ) × IsWrittenOf o s (written ++ more) × Appends held held' put × (forms more ≡ put ++ rest)
 
 -- the verdict was reached, and what is written before it was put
-abbrev pub PutsAll : Plan → Option (List ℕ) → Option (List ℕ) → List Written → Seen → Stopped → Type 0
-PutsAll o held held' written s stopped = (more : List Written) × (items : List Item) × Recodes o s items (Some stopped) × (written ++ more ≡ all_written o s.units items)
+abbrev pub PutsAll : Options → Option (List ℕ) → Option (List ℕ) → List Written → Seen → Stopped → Type 0
+PutsAll o held held' written s stopped = (more : List Written) × (items : List Item) × Recodes o s items (Some stopped) × AreWritten o s.units items (written ++ more)
     × Appends held held' (forms more)
 
 -- A piece was fed and its units were written, up to an answer that ends the run. All was written before the piece.
-abbrev pub PieceEnds : Plan → Option (List ℕ) → Option (List ℕ) → List Written → Seen → Status → Type 0
+abbrev pub PieceEnds : Options → Option (List ℕ) → Option (List ℕ) → List Written → Seen → Status → Type 0
 PieceEnds o held held' written s (Outside unit why) = PutsAll o held held' written s (OutsideAt unit why)
 PieceEnds o held held' written s (Stop case place) = PutsAll o held held' written s (StopAt case place)
 PieceEnds o held held' written s WriteFault = PutsPart o held held' written s
@@ -51,9 +52,9 @@ PieceEnds o held held' written s Memory = PutsPart o held held' written s
 PieceEnds o held held' written s _ = ⊥
 
 -- a piece was fed and all of its units were written
-abbrev pub PieceDone : Plan → Recoder → Recoder → Option (List ℕ) → Option (List ℕ) → Account → Account → List ℕ → Type 0
-PieceDone o old new held held' account account' piece = (fed : List ℕ) (written : List Written) → IsReady old o fed written →
-    (more : List Written) × IsReady new o (fed ++ piece) (written ++ more) × Appends held held' (forms more) × Notes account account' more
+abbrev pub PieceDone : {P : Type 0} → (P → Tries) → Options → Recoder P → Recoder P → Option (List ℕ) → Option (List ℕ) → Account → Account → List ℕ → Type 0
+PieceDone tried o old new held held' account account' piece = (fed : List ℕ) (written : List Written) → IsReady tried old o fed written →
+    (more : List Written) × IsReady tried new o (fed ++ piece) (written ++ more) × Appends held held' (forms more) × Notes account account' more
 
 abbrev pub status_of_fault : SinkFault → Status
 status_of_fault SinkFailed = WriteFault

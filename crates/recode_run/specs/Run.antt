@@ -2,25 +2,31 @@
 use Rattle.std.specs.Prelude.{◌≡◌, ◌⊎◌, ℕ, ◌+◌, ◌-◌, ◌<◌, ◌≤◌, nat_le, if◌then◌else◌, List, [], ◌++◌, length, map, take, Option, Some, None}
 use Rattle.std.specs.Io.KnownBytes.{Appends, Consumes, Keeps, IsAtEnd}
 use Rattle.h264_types.specs.declared.layer.Layer.{Layer}
-use Rattle.init_table.specs.TableText.{FailsAt}
+use Rattle.init_table.specs.TableText.{FailsAt, IsTableOf}
+use Rattle.init_table.specs.declared.table.InitTable.{InitTable}
 use Rattle.h264_types.specs.declared.fault.Stopped.{Stopped}
 use Rattle.h264_types.specs.declared.fault.Stopped.TheVariants.{Stop as StopAt, Outside as OutsideAt}
 use Rattle.h264_types.specs.Units.{Seen, seen, seen_whole}
-use Rattle.slice_rewrite.specs.declared.plan.Plan.{Plan}
+use Rattle.slice_rewrite.specs.Options.{Options, whole_run}
+use Rattle.slice_rewrite.specs.declared.pick.Tries.TheVariants.{One}
 use Rattle.recode_run.specs.declared.account.Account.{Account}
 use Rattle.recode_run.specs.declared.status.Status.{Status}
 use Rattle.recode_run.specs.declared.status.Status.TheVariants.{Ok as Done, BadWords, ReadFault, WriteFault, Stop, Outside, TooMuch, Memory, ReportFault, BadTable}
 use Rattle.slice_rewrite.specs.Items.{Item}
 use Rattle.slice_rewrite.specs.Verdict.{Judges, Recodes}
-use Rattle.stream_recoder.specs.Written.{all_written}
-use Rattle.slice_rewrite.specs.Written.{output}
+use Rattle.stream_recoder.specs.Written.{Written, AreWritten, forms}
+use Rattle.slice_rewrite.specs.Written.{IsOutput}
 use Rattle.recode_run.specs.Account.{account_of}
 use Rattle.recode_run.specs.Report.{Reports}
-use Rattle.recode_run.specs.Words.{Request, IsTable}
+use Rattle.recode_run.specs.Words.{Request}
 
--- what recoding to this layer is to do
-abbrev pub plan_to : Layer → Plan
-plan_to layer = record { to = layer; range = None }
+-- what recoding to this layer with this table rests on: cabac_init_idc is 0 where it stands
+abbrev pub run_to : Layer → InitTable → Options
+run_to layer init = whole_run layer init (One 0)
+
+-- what is written for these units was written
+abbrev pub Gains : Options → List (List ℕ) → List Item → Option (List ℕ) → Option (List ℕ) → Type 0
+Gains o units items held held' = (bytes : List ℕ) × IsOutput o units items bytes × Appends held held' bytes
 
 -- ## By the bytes that the source gave
 
@@ -30,7 +36,7 @@ IsOver bound given over = (over ≡ []) ⊎ ((length over ≡ 1) × (length give
 
 -- Some output was written: all that of the bytes given before a last piece of at most 65,536 bytes, in which no verdict
 -- stands, and some more of what is written for some first units of all that were given.
-pub record IsPartlyWritten (o : Plan) (bound : ℕ) (left left' held held' : Option (List ℕ)) : Type 0 where
+pub record IsPartlyWritten (o : Options) (bound : ℕ) (left left' held held' : Option (List ℕ)) : Type 0 where
   pub given : List ℕ
   pub last : List ℕ
   pub over : List ℕ
@@ -47,14 +53,16 @@ pub record IsPartlyWritten (o : Plan) (bound : ℕ) (left left' held held' : Opt
   pub first : all.units ≡ units ++ later
   pub read : List Item
   pub read_is : Judges o [] units None read None
+  pub early : List ℕ
+  pub early_is : IsOutput o (seen given).units items early
   pub more : List ℕ
   pub rest : List ℕ
-  pub appended : Appends held held' (output o (seen given).units items ++ more)
-  pub written : output o units read ≡ (output o (seen given).units items ++ more) ++ rest
+  pub appended : Appends held held' (early ++ more)
+  pub written : IsOutput o units read ((early ++ more) ++ rest)
 
 -- A verdict ended the run, and what is written for the units before it was written. It came with a last piece of at most
 -- 65,536 bytes, or with the end of the input: none stands in the bytes given before.
-pub record EndsEarly (o : Plan) (bound : ℕ) (left left' held held' : Option (List ℕ)) (stopped : Stopped) : Type 0 where
+pub record EndsEarly (o : Options) (bound : ℕ) (left left' held held' : Option (List ℕ)) (stopped : Stopped) : Type 0 where
   pub given : List ℕ
   pub last : List ℕ
   pub consumed : Consumes left left' (given ++ last)
@@ -66,22 +74,22 @@ pub record EndsEarly (o : Plan) (bound : ℕ) (left left' held held' : Option (L
   pub which : (all ≡ seen (given ++ last)) ⊎ ((all ≡ seen_whole (given ++ last)) × IsAtEnd left')
   pub read : List Item
   pub ends : Recodes o all read (Some stopped)
-  pub written : Appends held held' (output o all.units read)
+  pub written : Gains o all.units read held held'
 
 -- How recoding at most bound bytes ended.
-abbrev pub RunEnds : Plan → ℕ → Option (List ℕ) → Option (List ℕ) → Option (List ℕ) → Option (List ℕ) → Account → Status → Type 0
+abbrev pub RunEnds : Options → ℕ → Option (List ℕ) → Option (List ℕ) → Option (List ℕ) → Option (List ℕ) → Account → Status → Type 0
 RunEnds o bound left left' held held' account Done =
     (given : List ℕ) × (items : List Item) × Consumes left left' given × IsAtEnd left' × (length given ≤ bound)
-    × Recodes o (seen_whole given) items None × Appends held held' (output o (seen_whole given).units items)
-    × (account ≡ account_of (length given) (map (λ w. w.event) (all_written o (seen_whole given).units items)))
+    × Recodes o (seen_whole given) items None
+    × ((written : List Written) × AreWritten o (seen_whole given).units items written × Appends held held' (forms written) × (account ≡ account_of (length given) (map (λ w. w.event) written)))
 RunEnds o bound left left' held held' account (Outside unit why) = EndsEarly o bound left left' held held' (OutsideAt unit why)
 RunEnds o bound left left' held held' account (Stop case place) = EndsEarly o bound left left' held held' (StopAt case place)
 RunEnds o bound left left' held held' account TooMuch =
     (given : List ℕ) × (next : List ℕ) × (items : List Item) × Consumes left left' (given ++ next) × (length given ≡ bound) × (length next ≡ 1)
-    × Recodes o (seen given) items None × Appends held held' (output o (seen given).units items)
+    × Recodes o (seen given) items None × Gains o (seen given).units items held held'
 RunEnds o bound left left' held held' account ReadFault =
     (given : List ℕ) × (items : List Item) × Consumes left left' given × (length given ≤ bound)
-    × Recodes o (seen given) items None × Appends held held' (output o (seen given).units items)
+    × Recodes o (seen given) items None × Gains o (seen given).units items held held'
 RunEnds o bound left left' held held' account WriteFault = IsPartlyWritten o bound left left' held held'
 RunEnds o bound left left' held held' account Memory = IsPartlyWritten o bound left left' held held'
 RunEnds o bound left left' held held' account _ = ⊥
@@ -95,7 +103,7 @@ IsBadTable text status = (at : ℕ) × FailsAt text at × (status ≡ BadTable a
 abbrev pub Ran : Option Request → ℕ → Option (List ℕ) → Option (List ℕ) → Option (List ℕ) → Option (List ℕ) → Account → Status → Type 0
 Ran (Some asked) bound left left' held held' account status =
     (IsBadTable asked.table status × Keeps left left' × Keeps held held')
-    ⊎ (IsTable asked.table × RunEnds (plan_to asked.to) bound left left' held held' account status)
+    ⊎ ((init : InitTable) × IsTableOf asked.table init × RunEnds (run_to asked.to init) bound left left' held held' account status)
 Ran None bound left left' held held' account status = (status ≡ BadWords) × Keeps left left' × Keeps held held'
 
 -- the answer replaces what ended the run, since the report failed or there was no memory for it
@@ -113,20 +121,21 @@ RunAnswers asked bound left left' held held' report report' answer =
 unfoldable pub judged : ℕ → List ℕ → Seen
 judged bound b = if nat_le (length b) bound then seen_whole b else seen (take bound b)
 
--- these bytes are the first of what is written for s
-abbrev pub IsFront : Plan → Seen → List ℕ → Type 0
-IsFront o s bytes = (items : List Item) (verdict : Option Stopped) → Recodes o s items verdict → (rest : List ℕ) × (output o s.units items ≡ bytes ++ rest)
+-- these bytes are the first of what is written for some first units of s, which have no verdict
+abbrev pub IsFront : Options → Seen → List ℕ → Type 0
+IsFront o s bytes =
+    (units : List (List ℕ)) × (later : List (List ℕ)) × (items : List Item) × (rest : List ℕ) × (s.units ≡ units ++ later) × Judges o [] units None items None × IsOutput o units items (bytes ++ rest)
 
 -- a verdict of what is judged ended the run, and what is written for the units before it was written
-abbrev pub StopsAt : Plan → Seen → Option (List ℕ) → Option (List ℕ) → Stopped → Type 0
-StopsAt o s held held' stopped = (items : List Item) × Recodes o s items (Some stopped) × Appends held held' (output o s.units items)
+abbrev pub StopsAt : Options → Seen → Option (List ℕ) → Option (List ℕ) → Stopped → Type 0
+StopsAt o s held held' stopped = (items : List Item) × Recodes o s items (Some stopped) × Gains o s.units items held held'
 
 -- no verdict stands, and all that is judged was written
-abbrev pub Passes : Plan → Seen → Option (List ℕ) → Option (List ℕ) → Type 0
-Passes o s held held' = (items : List Item) × Recodes o s items None × Appends held held' (output o s.units items)
+abbrev pub Passes : Options → Seen → Option (List ℕ) → Option (List ℕ) → Type 0
+Passes o s held held' = (items : List Item) × Recodes o s items None × Gains o s.units items held held'
 
 -- What each answer says of a run over a source that has the bytes b.
-abbrev pub Leaves : Plan → ℕ → List ℕ → Option (List ℕ) → Option (List ℕ) → Option (List ℕ) → Status → Type 0
+abbrev pub Leaves : Options → ℕ → List ℕ → Option (List ℕ) → Option (List ℕ) → Option (List ℕ) → Status → Type 0
 Leaves o bound b left' held held' Done = (length b ≤ bound) × (left' ≡ Some []) × Passes o (judged bound b) held held'
 Leaves o bound b left' held held' (Outside unit why) = StopsAt o (judged bound b) held held' (OutsideAt unit why)
 Leaves o bound b left' held held' (Stop case place) = StopsAt o (judged bound b) held held' (StopAt case place)
@@ -140,7 +149,7 @@ Leaves o bound b left' held held' _ = ⊥
 abbrev pub LeavesBy : Option Request → ℕ → List ℕ → Option (List ℕ) → Option (List ℕ) → Option (List ℕ) → Status → Type 0
 LeavesBy (Some asked) bound b left' held held' status =
     (IsBadTable asked.table status × (left' ≡ Some b) × Keeps held held')
-    ⊎ (IsTable asked.table × Leaves (plan_to asked.to) bound b left' held held' status)
+    ⊎ ((init : InitTable) × IsTableOf asked.table init × Leaves (run_to asked.to init) bound b left' held held' status)
 LeavesBy None bound b left' held held' status = (status ≡ BadWords) × (left' ≡ Some b) × Keeps held held'
 
 -- What is left where the source tells its bytes: an answer that replaces another leaves what that one leaves.
@@ -151,17 +160,17 @@ IsTold asked bound (Some b) left' held held' answer =
 
 -- ## Exactly when
 
--- the answer that is due for a source of the bytes b, which is to be recoded to this layer
-abbrev pub IsDueTo : Layer → ℕ → List ℕ → Status → Type 0
-IsDueTo layer bound b Done = (length b ≤ bound) × ((items : List Item) × Recodes (plan_to layer) (judged bound b) items None)
-IsDueTo layer bound b (Outside unit why) = (items : List Item) × Recodes (plan_to layer) (judged bound b) items (Some (OutsideAt unit why))
-IsDueTo layer bound b (Stop case place) = (items : List Item) × Recodes (plan_to layer) (judged bound b) items (Some (StopAt case place))
-IsDueTo layer bound b TooMuch = (bound < length b) × ((items : List Item) × Recodes (plan_to layer) (judged bound b) items None)
-IsDueTo layer bound b _ = ⊥
+-- the answer that is due for a source of the bytes b, which is to be recoded so
+abbrev pub IsDueTo : Options → ℕ → List ℕ → Status → Type 0
+IsDueTo o bound b Done = (length b ≤ bound) × ((items : List Item) × Recodes o (judged bound b) items None)
+IsDueTo o bound b (Outside unit why) = (items : List Item) × Recodes o (judged bound b) items (Some (OutsideAt unit why))
+IsDueTo o bound b (Stop case place) = (items : List Item) × Recodes o (judged bound b) items (Some (StopAt case place))
+IsDueTo o bound b TooMuch = (bound < length b) × ((items : List Item) × Recodes o (judged bound b) items None)
+IsDueTo o bound b _ = ⊥
 
 -- the same of any words
 abbrev pub IsDue : Option Request → ℕ → List ℕ → Status → Type 0
-IsDue (Some asked) bound b status = IsBadTable asked.table status ⊎ (IsTable asked.table × IsDueTo asked.to bound b status)
+IsDue (Some asked) bound b status = IsBadTable asked.table status ⊎ ((init : InitTable) × IsTableOf asked.table init × IsDueTo (run_to asked.to init) bound b status)
 IsDue None bound b status = status ≡ BadWords
 
 -- want of memory, or a fault of an end
@@ -177,11 +186,11 @@ IsExact asked bound (Some b) answer = (due : Status) → IsDue asked bound b due
 
 -- Whatever the answer, what is written for the units that ended in the bytes taken was written, the last 65,536 of these
 -- bytes left out.
-abbrev pub IsPromptFor : Plan → List ℕ → Option (List ℕ) → Option (List ℕ) → Option (List ℕ) → Type 0
+abbrev pub IsPromptFor : Options → List ℕ → Option (List ℕ) → Option (List ℕ) → Option (List ℕ) → Type 0
 IsPromptFor o b left' held held' = (taken : List ℕ) (rest : List ℕ) → b ≡ taken ++ rest → left' ≡ Some rest →
     let early = seen (take (length taken - 65536) taken) in
-    (items : List Item) (verdict : Option Stopped) → Recodes o early items verdict → (more : List ℕ) × Appends held held' (output o early.units items ++ more)
+    (items : List Item) (verdict : Option Stopped) → Recodes o early items verdict → (bytes : List ℕ) × (more : List ℕ) × IsOutput o early.units items bytes × Appends held held' (bytes ++ more)
 
 abbrev pub IsPrompt : Option Request → Option (List ℕ) → Option (List ℕ) → Option (List ℕ) → Option (List ℕ) → Type 0
-IsPrompt (Some asked) (Some b) left' held held' = IsPromptFor (plan_to asked.to) b left' held held'
+IsPrompt (Some asked) (Some b) left' held held' = (init : InitTable) → IsTableOf asked.table init → IsPromptFor (run_to asked.to init) b left' held held'
 IsPrompt _ _ left' held held' = Unit {0}

@@ -1,10 +1,9 @@
 -- The words that the program is called with.
-use Rattle.std.specs.Prelude.{ℕ, ℤ, Bool, ◌&&◌, if◌then◌else◌, List, [], ◌∷◌, Option, Some, None, codes}
+use Rattle.std.specs.Prelude.{ℕ, Bool, ◌&&◌, if◌then◌else◌, List, [], ◌∷◌, Option, Some, None, codes}
 use Rattle.std.specs.Str.{bytes_eq}
 use Rattle.std.specs.Option.{option_map}
 use Rattle.h264_types.specs.declared.layer.Layer.{Layer}
 use Rattle.h264_types.specs.declared.layer.Layer.TheVariants.{Cavlc, Cabac}
-use Rattle.init_table.specs.TableText.{IsTableText}
 use Rattle.recode_run.specs.declared.words.Asked.{Asked}
 
 -- a wanted layer, and the text that is to be a table
@@ -31,7 +30,3 @@ abbrev pub words_of : List (List ℕ) → Option Request
 words_of (command ∷ to ∷ layer ∷ table ∷ text ∷ []) =
     if are_names command to table then option_map (λ to. record { to = to; table = text }) (layer_of layer) else None
 words_of _ = None
-
--- the text is a table's
-abbrev pub IsTable : List ℕ → Type 0
-IsTable text = (pairs : ℕ → ℕ → ℤ × ℤ) × IsTableText text pairs

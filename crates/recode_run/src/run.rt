@@ -8,19 +8,19 @@ ghost use Rattle.recode_run.specs.Account.{account_of};
 ghost use Rattle.std.specs.Option.{option_map};
 ghost use Rattle.recode_run.specs.Words.{request_of, words_of};
 ghost use Rattle.stream_recoder.specs.Written.{Written, forms};
-ghost use Rattle.stream_recoder.specs.Recoder.{waiting, HasRecoded};
+ghost use Rattle.stream_recoder.specs.Recoder.{waiting, HasRecoded, options_of};
 ghost use Rattle.recode_run.specs.Pieces.{IsReady, PieceDone, PieceEnds, Notes, ReadsSome, status_of_fault, status_of_stop};
 ghost use Rattle.recode_run.specs.Headline.{IsHeadline};
-ghost use Rattle.recode_run.specs.Run.{RunEnds, Ran, RunAnswers, IsTold, IsExact, IsPrompt};
+ghost use Rattle.recode_run.specs.Run.{run_to, RunEnds, Ran, RunAnswers, IsTold, IsExact, IsPrompt};
 ghost use Rattle.recode_run.specs.Report.{TakesPart};
 
 use crate::account::Account;
 use crate::report::write_report;
 use crate::status::Status;
 use crate::words::{Asked, read_words};
-use h264_types::Stopped;
+use h264_types::{Layer, Stopped};
 use init_table::{BadTable, InitTable};
-use slice_rewrite::Plan;
+use slice_rewrite::{FixedInit, InitPick, Plan};
 use std::alloc::Global;
 use stream_recoder::Recoder;
 use stream_taps::Tap;
@@ -106,7 +106,7 @@ fn recode_to<S: Source, K: Sink>(
         return Status::BadWords;
     };
     match InitTable::of(table) {
-        Ok(_) => recode(alloc, Plan { to, range: None }, src, out, bound, account),
+        Ok(init) => recode(alloc, to, init, src, out, bound, account),
         Err(BadTable { at }) => Status::BadTable { at },
     }
 }
@@ -114,20 +114,21 @@ fn recode_to<S: Source, K: Sink>(
 // Recodes a source to a sink, and flushes the sink.
 fn recode<S: Source, K: Sink>(
     alloc: Global,
-    plan: Plan,
+    to: Layer,
+    init: InitTable,
     src: &mut S,
     out: &mut K,
     bound: u64,
     account: &mut Account,
 ) -> Status
     requires bounded { bound ≤ 2 ^ 40 }
-    requires whole { plan.range ≡ None }
     requires none { account.old ≡ account_of 0 [] }
-    ensures ends { RunEnds plan bound (S.left src.old) (S.left src.new) (K.held out.old) (K.held out.new) account.new result }
+    ensures ends { RunEnds (run_to to init) bound (S.left src.old) (S.left src.new) (K.held out.old) (K.held out.new) account.new result }
     ensures read { result ≡ Status.ReadFault → Rose (S.faults src.old) (S.faults src.new) }
     ensures write { result ≡ Status.WriteFault → Rose (K.faults out.old) (K.faults out.new) }
 {
-    let Ok(mut recoder) = Recoder::new(alloc, plan) else {
+    let plan = Plan { to, range: None };
+    let Ok(mut recoder) = Recoder::new(alloc, plan, init, FixedInit(0)) else {
         return Status::Memory;
     };
     let status = recode_all(&mut recoder, src, out, bound, account);
@@ -138,17 +139,17 @@ fn recode<S: Source, K: Sink>(
 }
 
 // Reads, recodes and writes until something ends it.
-fn recode_all<S: Source, K: Sink>(
-    recoder: &mut Recoder,
+fn recode_all<P: InitPick, S: Source, K: Sink>(
+    recoder: &mut Recoder<P>,
     src: &mut S,
     out: &mut K,
     bound: u64,
     account: &mut Account,
 ) -> Status
-    requires ready { HasRecoded recoder.old [] [] × (waiting recoder.old ≡ []) }
+    requires ready { HasRecoded P.tried recoder.old [] [] × (waiting recoder.old ≡ []) }
     requires bounded { bound ≤ 2 ^ 40 }
     requires none { account.old ≡ account_of 0 [] }
-    ensures ends { RunEnds recoder.old.plan bound (S.left src.old) (S.left src.new) (K.held out.old) (K.held out.new) account.new result }
+    ensures ends { RunEnds (options_of P.tried recoder.old) bound (S.left src.old) (S.left src.new) (K.held out.old) (K.held out.new) account.new result }
     ensures read { result ≡ Status.ReadFault → Rose (S.faults src.old) (S.faults src.new) }
     ensures write { result ≡ Status.WriteFault → Rose (K.faults out.old) (K.faults out.new) }
     ensures later { K.faults out.old ≤ K.faults out.new }
@@ -181,14 +182,14 @@ fn recode_all<S: Source, K: Sink>(
 }
 
 // Feeds a piece, and writes the units that end in it.
-fn step<K: Sink>(
-    recoder: &mut Recoder,
+fn step<P: InitPick, K: Sink>(
+    recoder: &mut Recoder<P>,
     piece: &[u8],
     out: &mut K,
     account: &mut Account,
 ) -> Result<(), Status>
-    ensures ok { OnOk result ((o : _) → PieceDone o recoder.old recoder.new (K.held out.old) (K.held out.new) account.old account.new piece.now) }
-    ensures err { IfErr result (λ status. (o : _) (fed : List ℕ) (written : List Written) → IsReady recoder.old o fed written → PieceEnds o (K.held out.old) (K.held out.new) written (seen (fed ++ piece.now)) status) }
+    ensures ok { OnOk result ((o : _) → PieceDone P.tried o recoder.old recoder.new (K.held out.old) (K.held out.new) account.old account.new piece.now) }
+    ensures err { IfErr result (λ status. (o : _) (fed : List ℕ) (written : List Written) → IsReady P.tried recoder.old o fed written → PieceEnds o (K.held out.old) (K.held out.new) written (seen (fed ++ piece.now)) status) }
     ensures cause { IfErr result (λ status. status ≡ Status.WriteFault → Rose (K.faults out.old) (K.faults out.new)) }
     ensures later { K.faults out.old ≤ K.faults out.new }
 {
@@ -203,16 +204,16 @@ fn step<K: Sink>(
 }
 
 // Writes all that waits, and counts it.
-fn put_waiting<K: Sink>(
-    recoder: &mut Recoder,
+fn put_waiting<P: InitPick, K: Sink>(
+    recoder: &mut Recoder<P>,
     out: &mut K,
     account: &mut Account,
 ) -> Result<(), SinkFault>
     ensures ok { OnOk result (Appends (K.held out.old) (K.held out.new) (forms (waiting recoder.old)) × (waiting recoder.new ≡ []) × Notes account.old account.new (waiting recoder.old)) }
-    ensures recodes { OnOk result ((fed : List ℕ) (drained : List Written) → HasRecoded recoder.old fed drained → HasRecoded recoder.new fed (drained ++ waiting recoder.old)) }
+    ensures recodes { OnOk result ((fed : List ℕ) (drained : List Written) → HasRecoded P.tried recoder.old fed drained → HasRecoded P.tried recoder.new fed (drained ++ waiting recoder.old)) }
     ensures err { OnErr result (TakesPart (K.held out.old) (K.held out.new) (forms (waiting recoder.old))) }
     ensures cause { HasSinkCause (K.faults out.old) (K.faults out.new) result }
-    ensures plan { recoder.new.plan ≡ recoder.old.plan }
+    ensures options { options_of P.tried recoder.new ≡ options_of P.tried recoder.old }
 {
     while let Some((form, event)) = recoder.drain() {
         put_all(out, &form)?;

@@ -1,8 +1,9 @@
 // Slices read and written as lists of macroblocks.
 use h264_types::{Case, Layer, Mb, MbKind, valid};
+use init_table::InitTable;
 use param_sets::{Sets, read_pps, read_sps};
 use slice_header::shape;
-use slice_rewrite::{How, RewriteFault, read_slice, recode_slice, write_slice};
+use slice_rewrite::{FixedInit, How, RewriteFault, read_slice, recode_slice, write_slice};
 use std::alloc::Global;
 use std::test::Fail;
 
@@ -22,6 +23,16 @@ const INTRA: Unit = Unit {
     header: 0x65,
     payload: &[0x88, 0x84, 0x93, 0xC0],
 };
+
+/// The same slice in CABAC, with the table `flat`.
+const INTRA_IN_CABAC: Unit = Unit {
+    pps: &[0xEE, 0x38, 0x80],
+    payload: &[0x88, 0x84, 0xFF, 0x75, 0xFF],
+    ..INTRA
+};
+
+/// It with a level of 2065 at the first place of its DC levels.
+const GREATER_LEVEL: [u8; 10] = [0x88, 0x84, 0xFF, 0x74, 0, 0x0E, 0x6E, 0x32, 0x65, 8];
 
 /// High, fields of four by two macroblocks, with the 8x8 transform: a slice of a bottom field with 32 active references,
 /// of one skipped macroblock, that is no reference.
@@ -50,56 +61,87 @@ fn sets_of(alloc: Global, unit: &Unit) -> Result<Sets, Fail> {
     Ok(sets)
 }
 
-// What is written for a slice with this macroblock in place of its own, if it is one of the slice's.
+// What is written in a layer for a slice with this macroblock in place of its own, if it is one of the slice's.
 fn written_with(
     alloc: Global,
     sets: &Sets,
+    init: &InitTable,
     unit: &Unit,
     mb: &Mb,
+    to: Layer,
 ) -> Result<Option<Vec<u8>>, RewriteFault> {
-    let mut slice = read_slice(alloc, sets, unit.header, unit.payload)?;
+    let mut slice = read_slice(alloc, sets, init, unit.header, unit.payload)?;
     slice.mbs = [*mb].to_vec(alloc)?;
     if !valid(&shape(sets, &slice.header), slice.mbs.as_slice()) {
         return Ok(None);
     }
     let how = How {
-        to: Layer::Cavlc,
+        to,
         number: 0,
         idc: 0,
     };
-    Ok(Some(write_slice(alloc, sets, &slice, how)?))
+    Ok(Some(write_slice(alloc, sets, init, &slice, how)?))
 }
 
 // Whether this payload is read as a slice of this macroblock alone.
 fn is_read_as(
     alloc: Global,
     sets: &Sets,
+    init: &InitTable,
     header: u8,
     payload: &[u8],
     mb: &Mb,
 ) -> Result<bool, RewriteFault> {
-    let slice = read_slice(alloc, sets, header, payload)?;
+    let slice = read_slice(alloc, sets, init, header, payload)?;
     Ok(slice.mbs.as_slice() == [*mb].as_slice())
 }
 
-// Whether pic_parameter_set_id 1 is written as 010 where 0 was 1.
-fn takes_another_number(alloc: Global) -> Result<bool, Fail> {
-    let sets = sets_of(alloc, &INTRA)?;
-    let again = recode_slice(alloc, &sets, INTRA.header, INTRA.payload, Layer::Cavlc, 1)?;
-    Ok(again.payload.as_slice() == [0x88, 0x41, 0x24, 0xF0].as_slice() && again.macroblocks == 1)
+// Whether a slice is written so for a layer, where pic_parameter_set_id is 1: 010, where it was 1.
+fn takes_another_number(alloc: Global, unit: &Unit, to: Layer, due: &[u8]) -> Result<bool, Fail> {
+    let sets = sets_of(alloc, unit)?;
+    let init = InitTable::of("flat")?;
+    let mut pick = FixedInit(0);
+    let again = recode_slice(
+        alloc,
+        &sets,
+        &init,
+        unit.header,
+        unit.payload,
+        to,
+        1,
+        &mut pick,
+    )?;
+    Ok(again.payload.as_slice() == due && again.macroblocks == 1)
 }
 
 // Whether the slice stops at a level of 2065, which needs a level_prefix above 15, and has one of 2064.
 fn is_bound_in_main(alloc: Global) -> Result<bool, Fail> {
     let sets = sets_of(alloc, &INTRA)?;
+    let init = InitTable::of("flat")?;
     let mut mb = Mb::without_elements(MbKind::Intra(3));
     mb.dc[0] = 2065;
-    let stopped = written_with(alloc, &sets, &INTRA, &mb);
+    let stopped = written_with(alloc, &sets, &init, &INTRA, &mb, Layer::Cavlc);
     mb.dc[0] = 2064;
-    match written_with(alloc, &sets, &INTRA, &mb)? {
+    match written_with(alloc, &sets, &init, &INTRA, &mb, Layer::Cavlc)? {
         Some(payload) => Ok(
             matches!(stopped, Err(RewriteFault::Stop(Case::Level, 0)))
-                && is_read_as(alloc, &sets, INTRA.header, payload.as_slice(), &mb)?,
+                && is_read_as(alloc, &sets, &init, INTRA.header, payload.as_slice(), &mb)?,
+        ),
+        None => Ok(false),
+    }
+}
+
+// Whether a level of 2065 is written in CABAC, and read again.
+fn has_greater_levels_in_cabac(alloc: Global) -> Result<bool, Fail> {
+    let unit = INTRA_IN_CABAC;
+    let sets = sets_of(alloc, &unit)?;
+    let init = InitTable::of("flat")?;
+    let mut mb = Mb::without_elements(MbKind::Intra(3));
+    mb.dc[0] = 2065;
+    match written_with(alloc, &sets, &init, &unit, &mb, Layer::Cabac)? {
+        Some(payload) => Ok(
+            payload.as_slice() == GREATER_LEVEL.as_slice()
+                && is_read_as(alloc, &sets, &init, unit.header, payload.as_slice(), &mb)?,
         ),
         None => Ok(false),
     }
@@ -108,16 +150,17 @@ fn is_bound_in_main(alloc: Global) -> Result<bool, Fail> {
 // Whether the field is written with P_8x8 as it is, and read again.
 fn has_all_parts(alloc: Global) -> Result<bool, Fail> {
     let sets = sets_of(alloc, &FIELD)?;
+    let init = InitTable::of("flat")?;
     let mut mb = Mb::without_elements(MbKind::P(3));
     mb.subs = [0, 1, 2, 3];
     mb.refs[0] = [31, 0, 1, 2];
     for n in 0..16usize {
         mb.mvd[0][n] = [MVD_X[n], MVD_Y[n]];
     }
-    match written_with(alloc, &sets, &FIELD, &mb)? {
+    match written_with(alloc, &sets, &init, &FIELD, &mb, Layer::Cavlc)? {
         Some(payload) => Ok(
             payload.as_slice() == FIELD_8X8.as_slice()
-                && is_read_as(alloc, &sets, FIELD.header, payload.as_slice(), &mb)?,
+                && is_read_as(alloc, &sets, &init, FIELD.header, payload.as_slice(), &mb)?,
         ),
         None => Ok(false),
     }
@@ -125,8 +168,15 @@ fn has_all_parts(alloc: Global) -> Result<bool, Fail> {
 
 #[test]
 fn slices_are_written(rt: HostRuntime) -> Result<(), Fail> {
-    assert!(rt; takes_another_number(rt.alloc())?);
-    assert!(rt; is_bound_in_main(rt.alloc())?);
-    assert!(rt; has_all_parts(rt.alloc())?);
+    let alloc = rt.alloc();
+    let cavlc = [0x88, 0x41, 0x24, 0xF0];
+    let cabac = [0x88, 0x41, 0x3F, 0x75, 0xFF];
+    for unit in &[INTRA, INTRA_IN_CABAC] {
+        assert!(rt; takes_another_number(alloc, unit, Layer::Cavlc, &cavlc)?);
+        assert!(rt; takes_another_number(alloc, unit, Layer::Cabac, &cabac)?);
+    }
+    assert!(rt; is_bound_in_main(alloc)?);
+    assert!(rt; has_greater_levels_in_cabac(alloc)?);
+    assert!(rt; has_all_parts(alloc)?);
     Ok(())
 }

@@ -13,8 +13,8 @@ these_of found shape mbs these same list is =
     subst A same (subst L list is)
 
 pub shape-requires : goal.shape-requires
-shape-requires c = let u = may_be_written _ _ _ _ _ c.in_ok-slice.ensures.ok in (u.0, u.1.names, u.1.fits)
+shape-requires c = let u = may_be_written c.args.to _ _ _ _ _ _ c.in_ok-slice.ensures.ok in (u.0, u.1.names, u.1.fits)
 
 pub write_slice-requires-clause-slice : goal.write_slice-requires-clause-slice
 write_slice-requires-clause-slice c =
-    under_read _ _ _ _ _ _ c.in_ok-slice.ensures.ok (λ active names. these_of _ _ _ _ (c.shape.ensures.shape active names) c.as_slice.ensures.value (c.if-not-valid.ensures.0 refl))
+    under_read _ _ _ _ _ _ _ _ c.in_ok-slice.ensures.ok (λ active names. these_of _ _ _ _ (c.shape.ensures.shape active names) c.as_slice.ensures.value (c.if-not-valid.ensures.0 refl))
