@@ -1,6 +1,6 @@
 //! `h264recode`: rewrites an H.264 byte stream (ITU-T H.264, Annex B) from standard input to standard output so that its
-//! slices are in the wanted entropy layer, and reports on standard error how that ended. A slice in CABAC, of an MBAFF
-//! frame, or any slice where CABAC is wanted isn't recoded yet and ends the run.
+//! slices are in the wanted entropy layer, and reports on standard error how that ended. A slice of an MBAFF frame isn't
+//! recoded yet and ends the run.
 //! The top call is `recode_run::run::run`, and its contract is what the program promises.
 #![tactic(auto)]
 
