@@ -1,6 +1,7 @@
 pub mod Firsts
 pub mod Quarters
 pub mod ResidualLaws
+pub mod Unsent
 pub mod Chain
 pub mod ResidualChain
 pub mod CountLaws

@@ -58,6 +58,10 @@ pub fn read_chroma<B: BitSource>(
     ensures reads { Reads (AreChromaBlocks coded bound) (chroma_text sides.now coded) (B.left bits.old) (option_map (λ _. blocks.new) result) (B.left bits.new) }
     ensures kept { B.taken bits.new ++ B.left bits.new ≡ B.taken bits.old ++ B.left bits.old }
 {
+    if !coded {
+        *blocks = [[0; 15]; 4];
+        return Some(());
+    }
     let mut counts = ChromaCounts::new();
     for _n in 0..4u8 {
         read_chroma_block(bits, sides, coded, bound, &mut counts, blocks)?;
@@ -99,6 +103,9 @@ pub fn write_chroma<B: BitSink>(
     requires blocks { AreChromaBlocks coded 20 blocks.now }
     ensures { Appends (B.bits bits.old) (B.bits bits.new) (chroma_text sides.now coded blocks.now) result }
 {
+    if !coded {
+        return Ok(());
+    }
     let mut counts = ChromaCounts::new();
     for block in blocks {
         write_chroma_block(bits, sides, coded, &mut counts, block)?;

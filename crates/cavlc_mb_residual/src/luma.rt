@@ -53,8 +53,13 @@ fn read_luma_block<B: BitSource>(
 {
     let n = counts.len() as u8;
     let coded = is_block_coded(luma, n);
-    let nc = nc(sides, counts.as_slice(), At::Luma4(n));
     let mut block = [0i32; 16];
+    if !coded {
+        mb.set_block(n, &block);
+        counts.push(0);
+        return Some(());
+    }
+    let nc = nc(sides, counts.as_slice(), At::Luma4(n));
     let total = read_list(bits, coded, nc, &mut block[..usize::from(max)], bound)?;
     mb.set_block(n, &block);
     counts.push(total);
@@ -100,6 +105,10 @@ pub fn read_luma<B: BitSource>(
     ensures rest { mb.new ≡ record mb.old { luma = mb.new.luma } }
     ensures kept { B.taken bits.new ++ B.left bits.new ≡ B.taken bits.old ++ B.left bits.old }
 {
+    if luma == 0 {
+        mb.luma = [[0; 64]; 4];
+        return Some(());
+    }
     read_luma_lists(bits, sides, luma, max, bound, mb)?;
     place_lists(mb);
     Some(())
@@ -127,6 +136,10 @@ fn write_luma_list<B: BitSink>(
 {
     let n = counts.len() as u8;
     let coded = is_block_coded(luma, n);
+    if !coded {
+        counts.push(0);
+        return Ok(());
+    }
     let nc = nc(sides, counts.as_slice(), At::Luma4(n));
     counts.push(count_levels(block));
     write_list(bits, coded, nc, &block[..usize::from(max)])
@@ -172,6 +185,9 @@ pub fn write_luma<B: BitSink>(
     requires blocks { AreLumaBlocks luma max 20 (luma_blocks mb.now) }
     ensures { Appends (B.bits bits.old) (B.bits bits.new) (luma_text sides.now luma max (luma_blocks mb.now)) result }
 {
+    if luma == 0 {
+        return Ok(());
+    }
     let mut counts = LumaCounts::new();
     for _n in 0..16u8 {
         write_luma_block(bits, sides, luma, max, &mut counts, mb)?;

@@ -29,6 +29,10 @@ fn read_luma_dc<B: BitSource>(
     ensures reads { Reads (IsList is_16x16 16 bound) (layer.luma_dc_text around.now is_16x16) (B.left bits.old) (option_map (λ _. levels.new) result) (B.left bits.new) }
     ensures kept { B.taken bits.new ++ B.left bits.new ≡ B.taken bits.old ++ B.left bits.old }
 {
+    if !is_16x16 {
+        *levels = [0; 16];
+        return Some(());
+    }
     let nc = nc(&around.luma, &[], At::Luma4(0));
     read_list(bits, is_16x16, nc, levels, bound)?;
     Some(())
@@ -102,6 +106,9 @@ fn write_luma_dc<B: BitSink>(
     requires list { IsList is_16x16 16 20 levels.now }
     ensures { Appends (B.bits bits.old) (B.bits bits.new) (layer.luma_dc_text around.now is_16x16 levels.now) result }
 {
+    if !is_16x16 {
+        return Ok(());
+    }
     let nc = nc(&around.luma, &[], At::Luma4(0));
     write_list(bits, is_16x16, nc, levels)
 }

@@ -6,7 +6,11 @@ use Rattle.bit_texts.proofs.Reading.{Reads-None}
 use Rattle.bit_texts.proofs.Turns.{Completes-turn, Completes-stop, Completes-end}
 use Rattle.cavlc_mb_residual.specs.Residual.{counted, IsChromaBlock, chroma_block_text, AreChromaBlocks, chroma_text}
 use Rattle.cavlc_mb_residual.proofs.ResidualLaws.{IsPrefixFree-chroma}
+use Rattle.cavlc_mb_residual.proofs.Unsent.{chroma_none_read}
 use Rattle.cavlc_mb_residual.proofs.chroma.read_chroma.Goals as goal
+
+pub returns-then-not-coded-clause-reads : goal.returns-then-not-coded-clause-reads
+returns-then-not-coded-clause-reads g c = chroma_none_read c.args.sides.now c.args.coded c.args.bound _ c.if-not-coded.true
 
 pub returns-in_err-read_chroma_block-clause-reads : goal.returns-in_err-read_chroma_block-clause-reads
 returns-in_err-read_chroma_block-clause-reads g c =

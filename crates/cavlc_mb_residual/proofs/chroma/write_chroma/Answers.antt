@@ -3,7 +3,11 @@ use Rattle.bit_texts.proofs.Turns.{Wrote-turn, Wrote-turn_stop, Wrote-turns_end}
 use Rattle.bit_texts.proofs.Writing.{Appends-Err}
 use Rattle.cavlc_mb_residual.specs.Residual.{counted, IsChromaBlock, chroma_block_text}
 use Rattle.cavlc_mb_residual.proofs.ResidualLaws.{block_next, blocks_next}
+use Rattle.cavlc_mb_residual.proofs.Unsent.{chroma_none_written}
 use Rattle.cavlc_mb_residual.proofs.chroma.write_chroma.Goals as goal
+
+pub returns-then-not-coded : goal.returns-then-not-coded
+returns-then-not-coded g c = chroma_none_written c.args.sides.now c.args.coded c.args.blocks.now _ c.if-not-coded.true
 
 pub write_chroma_block-requires-clause-block : goal.write_chroma_block-requires-clause-block
 write_chroma_block-requires-clause-block g c =

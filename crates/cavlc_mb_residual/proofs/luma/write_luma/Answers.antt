@@ -7,7 +7,11 @@ use Rattle.cavlc_mb_residual.specs.Residual.{counted, IsLumaBlock, luma_block_te
 use Rattle.cavlc_mb_residual.specs.LumaBlocks.{luma_blocks}
 use Rattle.cavlc_mb_residual.proofs.Firsts.{length-sixteen, get_or-sixteen}
 use Rattle.cavlc_mb_residual.proofs.ResidualLaws.{block_next, blocks_next}
+use Rattle.cavlc_mb_residual.proofs.Unsent.{luma_none_written}
 use Rattle.cavlc_mb_residual.proofs.luma.write_luma.Goals as goal
+
+pub returns-then-luma-eq0 : goal.returns-then-luma-eq0
+returns-then-luma-eq0 g c = luma_none_written c.args.sides.now c.args.luma c.args.max (luma_blocks c.args.mb.now) _ c.if-luma-eq0.true
 
 pub write_luma_block-requires-clause-block : goal.write_luma_block-requires-clause-block
 write_luma_block-requires-clause-block g c =
