@@ -5,22 +5,22 @@ use std::marker::Model;
 /// Bits that are collected into bytes, the most significant of each byte first.
 #[derive(Drop)]
 pub struct BitVec {
-    /// The whole bytes.
+    /// The bytes of the first bits.
     bytes: Vec<u8>,
-    /// The bits after them, as a number, and how many they are.
-    last: u8,
+    /// The bits after them, as a number, and how many they are. Where there are any, the bytes have room for eight more.
+    last: u64,
     count: u8,
 }
 
 impl Model for BitVec {
-    ghost use Rattle.std.specs.Prelude.{List, Bool, ◌<◌, ◌^◌, ◌++◌};
+    ghost use Rattle.std.specs.Prelude.{List, ℕ, Bool, ◌+◌, ◌<◌, ◌≤◌, ◌^◌, ◌++◌, vec_len, vec_capacity};
     ghost use Rattle.bit_texts.specs.Bits.{binary, bits_of};
 
     ghost Value = { List Bool };
 
     ghost view = { λ v. bits_of v.bytes.items ++ binary v.count v.last };
 
-    ghost invariant = { λ v. (v.count < 8) × (v.last < 2 ^ v.count) };
+    ghost invariant = { λ v. (v.count < 64) × (v.last < 2 ^ v.count) × (0 < v.count → vec_len v.bytes + 8 ≤ vec_capacity v.bytes) };
 }
 
 impl BitVec {
@@ -43,61 +43,81 @@ impl BitVec {
         requires { length self % 8 ≡ 0 }
         ensures { bits_of result.items ≡ self }
     {
-        self.bytes
+        let BitVec {
+            mut bytes,
+            last,
+            count,
+        } = self;
+        if count > 0 {
+            let top = last << (64 - count);
+            let whole = usize::from(count / 8);
+            let _room = bytes.extend_from_slice(&top.to_be_bytes()[..whole]);
+        }
+        bytes
     }
 }
 
 impl BitVec {
-    ghost use Rattle.std.specs.Prelude.{◌≡◌, ◌+◌, ◌≤◌, ◌<◌, ◌^◌, ◌%◌, length, OnOk, OnErr};
+    ghost use Rattle.std.specs.Prelude.{◌≡◌, ◌≤◌, ◌<◌, ◌^◌, OnOk, OnErr};
     ghost use Rattle.bit_texts.specs.Bits.{binary};
     ghost use Rattle.bit_texts.specs.Texts.{Appended};
 
-    /// Appends n bits, at most as many as the last byte has room for.
-    fn put_in_byte(&mut self, value: u8, n: u8) -> Result<(), Memory>
-        requires room { length self.old % 8 + n ≤ 8 }
+    /// Appends n bits. Want of memory leaves the bits as they were.
+    #[inline(always)]
+    fn append(&mut self, value: u64, n: u8) -> Result<(), Memory>
+        requires count { n ≤ 64 }
         requires fits { value < 2 ^ n }
         ensures ok { OnOk result (Appended self.old self.new (binary n value)) }
         ensures err { OnErr result (self.new ≡ self.old) }
     {
-        let last = ((u16::from(self.last) << n) + u16::from(value)) as u8;
         let count = self.count + n;
-        if count == 8 {
-            self.bytes.push(last)?;
-            self.last = 0;
-            self.count = 0;
-        } else {
-            self.last = last;
-            self.count = count;
+        if self.count == 0 || count > 63 {
+            return self.append_over(value, n);
         }
+        self.last = (self.last << n) + value;
+        self.count = count;
         Ok(())
     }
 
-    /// How many bits the last byte has room for.
-    fn room(&self) -> u8
-        ensures { length self.now % 8 + result ≡ 8 }
+    /// The same where room is to be made first, or the bits fill eight bytes.
+    #[cold]
+    #[inline(never)]
+    fn append_over(&mut self, value: u64, n: u8) -> Result<(), Memory>
+        requires count { n ≤ 64 }
+        requires fits { value < 2 ^ n }
+        ensures ok { OnOk result (Appended self.old self.new (binary n value)) }
+        ensures err { OnErr result (self.new ≡ self.old) }
     {
-        8 - self.count
+        self.bytes.reserve(16)?;
+        let count = self.count + n;
+        if count < 64 {
+            self.last = (self.last << n) + value;
+            self.count = count;
+            return Ok(());
+        }
+        let over = count - 64;
+        let word = (self.last << (63 - self.count) << 1) + (value >> over);
+        self.bytes.extend_from_slice(&word.to_be_bytes())?;
+        self.last = value % (1 << over);
+        self.count = over;
+        Ok(())
     }
 }
 
 impl BitSink for BitVec {
     ghost bits = { λ v. v };
 
+    #[inline(always)]
     fn put(&mut self, bit: bool) -> Result<(), Memory> {
-        self.put_in_byte(u8::from(bit), 1)
+        self.append(u64::from(bit), 1)
     }
 
+    #[inline(always)]
     fn put_bits(&mut self, value: u64, n: u8) -> Result<(), Memory> {
-        let mut left = n;
-        while left > 0 {
-            let few = left.min(self.room());
-            left -= few;
-            self.put_in_byte(((value >> left) % (1 << few)) as u8, few)?;
-        }
-        Ok(())
+        self.append(value, n)
     }
 
     fn aligned(&self) -> bool {
-        self.count == 0
+        self.count % 8 == 0
     }
 }

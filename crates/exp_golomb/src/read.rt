@@ -9,6 +9,7 @@ ghost use Rattle.exp_golomb.specs.Element.{front, element_at, value_at};
 use crate::source::BitSource;
 
 /// A flag, u(1): the next bit, or None where no bit is left.
+#[inline(always)]
 pub fn read_flag<B: BitSource>(b: &mut B) -> Option<bool>
     ensures reads { MatchOption result (B.left b.old ≡ []) (λ flag. B.left b.old ≡ flag ∷ B.left b.new) }
     ensures front { Gives result (B.left b.new) (front Flag (B.left b.old)) }
@@ -20,6 +21,7 @@ pub fn read_flag<B: BitSource>(b: &mut B) -> Option<bool>
 
 /// u(n) (7.2): the number that the next n bits write, the most significant first.
 /// None where fewer than n bits are left.
+#[inline(always)]
 pub fn read_u<B: BitSource>(b: &mut B, n: u8) -> Option<u32>
     requires { n ≤ 32 }
     ensures reads { Reads (λ value. value < 2 ^ n) (binary n) (B.left b.old) result (B.left b.new) }
@@ -68,6 +70,7 @@ pub fn read_se<B: BitSource>(b: &mut B, min: i32, max: i32) -> Option<i32>
     signed(b, min, max)
 }
 
+#[inline(always)]
 fn number<B: BitSource>(b: &mut B, n: u8) -> Option<u32>
     requires { n ≤ 32 }
     ensures front { Gives result (B.left b.new) (front (U n) (B.left b.old)) }

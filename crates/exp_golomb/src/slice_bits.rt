@@ -1,4 +1,4 @@
-ghost use Rattle.std.specs.Prelude.{◌≡◌, ◌+◌, ◌-◌, ◌*◌, ◌/◌, ◌%◌, ◌^◌, ◌<◌, slice_index_or};
+ghost use Rattle.std.specs.Prelude.{◌≡◌, ◌+◌, ◌-◌, ◌*◌, ◌/◌, ◌%◌, ◌^◌, ◌<◌, drop, slice_index_or};
 ghost use Rattle.std.specs.List.{list_any};
 ghost use Rattle.bit_texts.specs.Bits.{number, first, bits_of};
 
@@ -49,6 +49,7 @@ impl BitSource for SliceBits<'_> {
 
     ghost taken = { λ s. s.taken };
 
+    #[inline(always)]
     fn bit(&mut self) -> Option<bool> {
         if self.place == self.bytes.len() {
             return None;
@@ -86,13 +87,12 @@ impl BitSource for SliceBits<'_> {
         others != 0 || any_one(rest)
     }
 
+    #[inline(always)]
     fn window(&self) -> u64 {
-        let left = &self.bytes[self.place..];
-        let high = eight_bytes(left);
-        let next = byte_at(left, 8);
-        shifted_window(high, next, self.used)
+        window_of(&self.bytes[self.place..], self.used)
     }
 
+    #[inline(always)]
     fn skip(&mut self, n: u8) -> bool {
         let bits = self.used + n;
         if usize::from((bits + 7) / 8) > self.bytes.len() - self.place {
@@ -102,6 +102,40 @@ impl BitSource for SliceBits<'_> {
         self.used = bits % 8;
         true
     }
+
+    #[inline(always)]
+    fn ready(&self) -> u8 {
+        let bytes = self.bytes.len() - self.place;
+        if bytes > 8 {
+            return 64;
+        }
+        8 * bytes as u8 - self.used
+    }
+}
+
+/// The 64 bits behind the first used ones of these bytes, with zeros past the end.
+#[inline(always)]
+fn window_of(left: &[u8], used: u8) -> u64
+    requires { used < 8 }
+    ensures { result ≡ number (first 64 (drop used (bits_of left.now))) }
+{
+    if let [a, b, c, d, e, f, g, h, next, ..] = left {
+        let high = u64::from_be_bytes([*a, *b, *c, *d, *e, *f, *g, *h]);
+        return shifted_window(high, *next, used);
+    }
+    last_window(left, used)
+}
+
+/// The same where the bytes may be fewer than nine.
+#[cold]
+#[inline(never)]
+fn last_window(left: &[u8], used: u8) -> u64
+    requires { used < 8 }
+    ensures { result ≡ number (first 64 (drop used (bits_of left.now))) }
+{
+    let high = eight_bytes(left);
+    let next = byte_at(left, 8);
+    shifted_window(high, next, used)
 }
 
 /// Whether a bit of these bytes is 1.
@@ -115,9 +149,6 @@ fn any_one(bytes: &[u8]) -> bool
 fn eight_bytes(bytes: &[u8]) -> u64
     ensures { result ≡ number (first 64 (bits_of bytes.now)) }
 {
-    if let [a, b, c, d, e, f, g, h, ..] = bytes {
-        return u64::from_be_bytes([*a, *b, *c, *d, *e, *f, *g, *h]);
-    }
     let mut window = 0u64;
     for i in 0..8 {
         window = window * 256 + u64::from(byte_at(bytes, i));
@@ -126,6 +157,7 @@ fn eight_bytes(bytes: &[u8]) -> u64
 }
 
 /// The 64 bits behind the first used ones of eight bytes and a ninth.
+#[inline(always)]
 fn shifted_window(high: u64, next: u8, used: u8) -> u64
     requires { used < 8 }
     ensures { result ≡ (high * 256 + next) / 2 ^ (8 - used) % 2 ^ 64 }

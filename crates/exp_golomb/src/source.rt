@@ -1,4 +1,4 @@
-ghost use Rattle.std.specs.Prelude.{◌≡◌, ◌≤◌, ◌<◌, ◌%◌, ◌↔◌, Bool, List, [], ◌∷◌, ◌++◌, length, drop, IsTrue, MatchBool, MatchOption};
+ghost use Rattle.std.specs.Prelude.{◌≡◌, ◌≤◌, ◌<◌, ◌%◌, ◌↔◌, Bool, List, [], ◌∷◌, ◌++◌, length, min, drop, IsTrue, MatchBool, MatchOption};
 ghost use Rattle.bit_texts.specs.Bits.{number, first, last_bit, more_data};
 
 /// A bitstream that is read from its front to its end, as the functions of ITU-T H.264, 7.2 read it.
@@ -30,6 +30,10 @@ pub trait BitSource: Drop {
     /// The next 64 bits, the first one on top, with zeros past the end.
     fn window(&self) -> u64
         ensures { result ≡ number (first 64 (left self.now)) };
+
+    /// How many of the bits of the window are left: 64, or all that are left.
+    fn ready(&self) -> u8
+        ensures { result ≡ min 64 (length (left self.now)) };
 
     /// Takes n bits; false where fewer are left, and then none is taken.
     fn skip(&mut self, n: u8) -> bool
