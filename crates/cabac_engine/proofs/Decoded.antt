@@ -4,11 +4,12 @@ use Rattle.std.specs.Bool.{beq}
 use Rattle.std.specs.Int.{from_bool}
 use Rattle.std.proofs.lemmas.Nat.{and_mask}
 use Rattle.bit_texts.specs.Bits.{TakesNumber}
-use Rattle.bit_texts.proofs.Numbers.{TakesNumber-push}
+use Rattle.bit_texts.proofs.Numbers.{TakesNumber-push, number-cons, number-nil, from_bool-most}
 use Rattle.cabac_interval.specs.Tables.{range_lps}
 use Rattle.cabac_interval.specs.Interval.{Kind, context, bypass, terminate, Bin, Interval, renormalised, without_upper, upper, lps_of, after, interval, IsKind, is_end, Begins, with_bin}
 use Rattle.cabac_interval.proofs.Lists.{interval-push, IsOpen-push}
 use Rattle.cabac_engine.specs.Decoding.{Decoding, Points, HasDecoded}
+use Rattle.cabac_engine.specs.OffsetBits.{Doubles}
 
 pub interval-with_bin : (bins : List Bin) (kind : Kind) (bit : Bool) → interval (with_bin bins kind bit) ≡ after (interval bins) kind bit
 interval-with_bin bins kind bit = interval-push bins (record { kind = kind; bit = bit })
@@ -99,6 +100,30 @@ decoded_bypass bit next old_range old_offset offset old_left left running taken 
       range_is = p.range_is;
       within = within;
     })
+
+-- the bit that a doubling takes
+one_more : (offset new_offset : ℕ) (left new_left : List Bool) → Doubles 1 offset new_offset left new_left → (next : Bool) × (left ≡ next ∷ new_left) × (2 * offset + from_bool next ≡ new_offset)
+one_more offset new_offset [] new_left d = absurd (omega (arith, d.taken.enough))
+one_more offset new_offset (next ∷ rest) new_left d =
+    let value : d.value ≡ from_bool next = sym d.taken.value_is ∙ number-cons next [] ∙ omega (arith, number-nil) in
+    (next, ap (λ t. next ∷ t) (sym d.taken.left_is), omega (arith, d.offset_is, value))
+
+pub bypass_lower : (range offset new_offset : ℕ) (left new_left : List Bool) → 256 ≤ range → Doubles 1 offset new_offset left new_left → new_offset < range
+    → (all : List Bool) (bins : List Bin) → HasDecoded all bins range offset left → HasDecoded all (with_bin bins bypass false) range new_offset new_left
+bypass_lower range offset new_offset left new_left running d within =
+    let m = one_more offset new_offset left new_left d in
+    decoded_bypass false m.0 range offset new_offset left new_left running m.1 (omega (arith, m.2)) within
+
+pub bypass_upper : (range offset new_offset : ℕ) (left new_left : List Bool) → 256 ≤ range → offset < range → Doubles 1 offset new_offset left new_left → range ≤ new_offset
+    → (new_offset - range < range) × ((all : List Bool) (bins : List Bin) → HasDecoded all bins range offset left → HasDecoded all (with_bin bins bypass true) range (new_offset - range) new_left)
+bypass_upper range offset new_offset left new_left running below d above =
+    let m = one_more offset new_offset left new_left d in
+    let within : new_offset - range < range = omega (arith, m.2, from_bool-most m.0) in
+    (within, decoded_bypass true m.0 range offset (new_offset - range) left new_left running m.1 (omega (arith, m.2)) within)
+
+pub none_left : (left : List Bool) → length left < 1 → left ≡ []
+none_left [] h = refl
+none_left (b ∷ left) h = absurd (omega arith)
 
 pub no_bypass : (old_range old_offset : ℕ) (old_left : List Bool) → old_left ≡ []
     → (all : List Bool) (bins : List Bin) → HasDecoded all bins old_range old_offset old_left → (bit : Bool) → Begins all (interval (with_bin bins bypass bit)) → ⊥

@@ -6,3 +6,4 @@ pub mod Carries
 pub mod Registers
 pub mod Encoded
 pub mod ReadingBins
+pub mod Offsets

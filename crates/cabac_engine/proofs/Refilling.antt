@@ -2,12 +2,13 @@
 use Rattle.std.proofs.Common.{◌≡◌, ℕ, ◌+◌, ◌-◌, ◌*◌, ◌^◌, ◌<◌, ◌≤◌, ◌%◌, Bool, true, false, List, length, refl, sym, ap, subst, ◌∙◌, arith, cond, length-drop}
 use Rattle.std.proofs.Math.Nat.{mul-le-mul_right, mod-eq_of_lt}
 use Rattle.bit_texts.specs.Bits.{TakesNumber}
-use Rattle.bit_texts.proofs.Numbers.{TakesNumber-none, TakesNumber-below, TakesNumber-append}
+use Rattle.bit_texts.proofs.Numbers.{TakesNumber-below, TakesNumber-append}
 use Rattle.cabac_interval.specs.Interval.{doublings_of, Interval, renormalised, without_upper, upper, Begins}
-use Rattle.cabac_interval.proofs.Doubling.{Doubles, doubles}
-use Rattle.cabac_engine.proofs.Doublings.{no_doublings}
+use Rattle.cabac_interval.proofs.Doubling.{doubles}
+use Rattle.cabac_interval.proofs.Doubling as ranges
 use Rattle.cabac_interval.proofs.Parts.{parts_apart, Begins-doubled}
 use Rattle.cabac_engine.specs.Decoding.{Decoding, Refills, Points}
+use Rattle.cabac_engine.specs.OffsetBits.{Doubles}
 
 -- the doubled range and offset fit, and the offset stays within the range
 pub record Room (range offset n value : ℕ) : Type 0 where
@@ -18,7 +19,7 @@ pub record Room (range offset n value : ℕ) : Type 0 where
 
 pub room : (range offset n value : ℕ) (left new_left : List Bool) → 0 < range → range < 512 → offset < range → n ≡ doublings_of range → TakesNumber n value left new_left → Room range offset n value
 room range offset n value left new_left some below within e t =
-    let d = subst (Doubles range) (sym e) (doubles range some below) in
+    let d = subst (ranges.Doubles range) (sym e) (doubles range some below) in
     let small = TakesNumber-below n value left new_left t in
     let step : (offset + 1) * 2 ^ n ≤ range * 2 ^ n = mul-le-mul_right (2 ^ n) (let h : offset + 1 ≤ range = omega arith in h) in
     record {
@@ -28,34 +29,31 @@ room range offset n value left new_left some below within e t =
       within = omega (arith, small, step);
     }
 
-pub refilled : (range offset n value : ℕ) (left new_left : List Bool) → 0 < range → range < 512 → offset < range → n ≡ doublings_of range → TakesNumber n value left new_left
-    → Refills range offset (range * 2 ^ n % 65536) (offset * 2 ^ n % 65536 + value) left new_left
-refilled range offset n value left new_left some below within e t =
-    let r = room range offset n value left new_left some below within e t in
+pub refilled : (range offset n new_offset : ℕ) (left new_left : List Bool) → 0 < range → range < 512 → offset < range → n ≡ doublings_of range → Doubles n offset new_offset left new_left
+    → Refills range offset (range * 2 ^ n % 65536) new_offset left new_left
+refilled range offset n new_offset left new_left some below within e d =
+    let r = room range offset n d.value left new_left some below within e d.taken in
     let small_range : range * 2 ^ n % 65536 ≡ range * 2 ^ n = mod-eq_of_lt (omega (arith, r.range_high)) in
-    let small_offset : offset * 2 ^ n % 65536 ≡ offset * 2 ^ n = mod-eq_of_lt (omega (arith, r.range_high, r.within)) in
     record {
-      value = value;
-      taken = subst (λ k. TakesNumber k value left new_left) e t;
-      range_is = mod-eq_of_lt (omega (arith, r.range_high)) ∙ ap (λ k. range * 2 ^ k) e;
+      value = d.value;
+      taken = subst (λ k. TakesNumber k d.value left new_left) e d.taken;
+      range_is = small_range ∙ ap (λ k. range * 2 ^ k) e;
       low = omega (arith, small_range, r.range_low);
-      within = omega (arith, small_range, small_offset, r.within);
-      offset_is = ap (λ x. x + value) (mod-eq_of_lt (omega (arith, r.range_high, r.within)) ∙ ap (λ k. offset * 2 ^ k) e);
+      within = omega (arith, small_range, r.within, d.offset_is);
+      offset_is = d.offset_is ∙ ap (λ k. offset * 2 ^ k + d.value) e;
     }
 
--- a range of at least 256 isn't doubled
-pub refilled_none : (range offset : ℕ) (left : List Bool) → 256 ≤ range → range < 512 → offset < range → Refills range offset range offset left left
-refilled_none range offset left many below within =
-    let none : doublings_of range ≡ 0 = no_doublings range many below in
-    let once : 2 ^ doublings_of range ≡ 1 = ap (λ k. 2 ^ k) none in
-    record {
-      value = 0;
-      taken = subst (λ n. TakesNumber n 0 left left) (sym none) (TakesNumber-none left);
-      range_is = omega (arith, ap (λ k. range * k) once);
-      offset_is = omega (arith, ap (λ k. offset * k) once);
-      low = many;
-      within = within;
-    }
+-- the offset has room for the bits that come to it
+pub record OffsetRoom (range offset n : ℕ) : Type 0 where
+  pub few : n ≤ 8
+  pub fits : (offset + 1) * 2 ^ n ≤ 1024
+  pub range_high : range * 2 ^ n % 65536 < 512
+
+pub offset_room : (range offset n : ℕ) → 0 < range → range < 512 → offset < range → n ≡ doublings_of range → OffsetRoom range offset n
+offset_room range offset n some below within e =
+    let d = subst (ranges.Doubles range) (sym e) (doubles range some below) in
+    let step : (offset + 1) * 2 ^ n ≤ range * 2 ^ n = mul-le-mul_right (2 ^ n) (let h : offset + 1 ≤ range = omega arith in h) in
+    record { few = d.few; fits = omega (arith, d.high, step); range_high = omega (arith, d.high) }
 
 -- ---- the number that was taken, and the interval
 
@@ -128,18 +126,21 @@ module _ (r o : ℕ) (t s : List Bool) (size : ℕ) (old new : Decoding) (view :
   offset_was : o ≡ old.offset
   offset_was = ap (λ d. d.offset) view
 
-  pub narrow_lower : o < r - size → Refills (r - size) o new.range new.offset old.left new.left
+  left_was : s ≡ old.left
+  left_was = ap (λ d. d.left) view
+
+  pub narrow_lower : o < r - size → Refills (r - size) old.offset new.range new.offset old.left new.left
       → (all : List Bool) (i : Interval) → Points all i old.range old.offset old.left → Points all (renormalised (without_upper size i)) new.range new.offset new.left
   narrow_lower h f all i p =
       kept_lower all i old.range old.offset size new.range new.offset old.left new.left p (omega (arith, h, range_was, offset_was))
-      (subst (λ x. Refills (old.range - size) x new.range new.offset old.left new.left) offset_was
-      (subst (λ x. Refills (x - size) o new.range new.offset old.left new.left) range_was f))
+      (subst (λ x. Refills (x - size) old.offset new.range new.offset old.left new.left) range_was f)
 
-  pub narrow_upper : size ≤ old.range → r - size ≤ o → Refills size (o - (r - size)) new.range new.offset old.left new.left
+  pub narrow_upper : size ≤ old.range → r - size ≤ o → Refills size (o - (r - size)) new.range new.offset s new.left
       → (all : List Bool) (i : Interval) → Points all i old.range old.offset old.left → Points all (renormalised (upper size i)) new.range new.offset new.left
   narrow_upper fits h f all i p =
       kept_upper all i old.range old.offset size new.range new.offset old.left new.left p fits (omega (arith, h, range_was, offset_was))
-      (subst (λ x. Refills size x new.range new.offset old.left new.left) (let e : o - (r - size) ≡ old.offset - (old.range - size) = omega (arith, range_was, offset_was) in e) f)
+      (subst (λ l. Refills size (old.offset - (old.range - size)) new.range new.offset l new.left) left_was
+      (subst (λ x. Refills size x new.range new.offset s new.left) (let e : o - (r - size) ≡ old.offset - (old.range - size) = omega (arith, range_was, offset_was) in e) f))
 
   pub stuck_in_lower : o < r - size → length old.left < doublings_of (r - size)
       → (all : List Bool) (i : Interval) → Points all i old.range old.offset old.left → (lower : Bool) → Begins all (renormalised (cond lower (without_upper size i) (upper size i))) → ⊥
@@ -147,7 +148,7 @@ module _ (r o : ℕ) (t s : List Bool) (size : ℕ) (old new : Decoding) (view :
       stuck_lower all i old.range old.offset size old.left p (omega (arith, h, range_was, offset_was))
       (subst (λ x. length old.left < doublings_of (x - size)) range_was few)
 
-  pub stuck_in_upper : size ≤ old.range → r - size ≤ o → length old.left < doublings_of size
+  pub stuck_in_upper : size ≤ old.range → r - size ≤ o → length s < doublings_of size
       → (all : List Bool) (i : Interval) → Points all i old.range old.offset old.left → (lower : Bool) → Begins all (renormalised (cond lower (without_upper size i) (upper size i))) → ⊥
   stuck_in_upper fits h few all i p =
-      stuck_upper all i old.range old.offset size old.left p fits (omega (arith, h, range_was, offset_was)) few
+      stuck_upper all i old.range old.offset size old.left p fits (omega (arith, h, range_was, offset_was)) (subst (λ l. length l < doublings_of size) left_was few)

@@ -2,3 +2,4 @@ pub mod Bins
 pub mod Decoding
 pub mod Encoding
 pub mod LowBits
+pub mod OffsetBits

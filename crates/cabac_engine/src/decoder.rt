@@ -6,26 +6,27 @@ ghost use Rattle.cabac_engine.specs.Decoding.{Decoding, IsDecoding, Refills, Dec
 
 use crate::cell::Cell;
 use crate::doubling::doublings;
+use crate::offset_bits::OffsetBits;
 use cabac_interval::range_lps;
 use exp_golomb::{BitSource, read_u};
 use std::marker::Model;
 
-/// The arithmetic decoding engine (9.3.1.2, 9.3.3.2): decodes the bins of a segment from a source of bits. It takes no bit ahead.
+/// The arithmetic decoding engine (9.3.1.2, 9.3.3.2): decodes the bins of a segment from a source of bits. It takes no bit
+/// ahead, but looks up some.
 #[derive(Drop)]
 pub struct Decoder<B: BitSource> {
     /// codIRange, and below 256 once no further bin may be decoded.
     range: u16,
-    /// codIOffset
-    offset: u16,
-    bits: B,
+    /// codIOffset, and the bits behind it.
+    offset: OffsetBits<B>,
 }
 
 impl<B: BitSource> Model for Decoder<B> {
     ghost Value = { Decoding };
 
-    ghost view = { λ d. record { range = d.range; offset = d.offset; taken = B.taken d.bits; left = B.left d.bits } };
+    ghost view = { λ d. record { range = d.range; offset = d.offset.offset; taken = d.offset.taken; left = d.offset.left } };
 
-    ghost invariant = { λ d. (d.range < 512) × (256 ≤ d.range → d.offset < d.range) };
+    ghost invariant = { λ d. (d.range < 512) × (256 ≤ d.range → d.offset.offset < d.range) };
 }
 
 /// No segment starts here: fewer than nine bits were left, or the first nine are 510 or 511.
@@ -48,8 +49,7 @@ impl<B: BitSource> Decoder<B> {
         match read_u(&mut bits, 9) {
             Some(offset) if offset < 510 => Ok(Decoder {
                 range: 510,
-                offset: offset as u16,
-                bits,
+                offset: OffsetBits::new(offset as u16, bits),
             }),
             _ => Err(NoStart { bits }),
         }
@@ -82,22 +82,15 @@ impl<B: BitSource> Decoder<B> {
         ensures some { OnSome result (IsDecoding self.new) }
         ensures none { IfNone result (self.new.range < 256) }
     {
-        match self.bits.bit() {
-            Some(next) => {
-                let offset = 2 * self.offset + u16::from(next);
-                if offset < self.range {
-                    self.offset = offset;
-                    Some(false)
-                } else {
-                    self.offset = offset - self.range;
-                    Some(true)
-                }
-            }
-            None => {
-                self.range = 0;
-                None
-            }
+        if !self.offset.double(1) {
+            self.range = 0;
+            return None;
         }
+        if self.offset.is_below(self.range) {
+            return Some(false);
+        }
+        self.offset.lower(self.range);
+        Some(true)
     }
 
     /// The next end bin, of which 1 ends the segment (9.3.3.2.4), or None exactly where the bits ran out.
@@ -110,16 +103,14 @@ impl<B: BitSource> Decoder<B> {
         ensures one { result ≡ Some true → self.new.range < 256 }
         ensures none { IfNone result (self.new.range < 256) }
     {
-        let offset = self.offset;
         let lower = self.range - 2;
-        if offset < lower {
-            self.refill(lower, offset)?;
-            Some(false)
-        } else {
-            self.range = 2;
-            self.offset = offset - lower;
-            Some(true)
+        if self.offset.is_below(lower) {
+            self.refill(lower)?;
+            return Some(false);
         }
+        self.offset.lower(lower);
+        self.range = 2;
+        Some(true)
     }
 
     /// Takes the lower or the upper part of the range, and says whether it is the lower one.
@@ -133,45 +124,34 @@ impl<B: BitSource> Decoder<B> {
         ensures some { OnSome result (IsDecoding self.new) }
         ensures none { IfNone result (self.new.range < 256) }
     {
-        let offset = self.offset;
         let lower = self.range - upper;
-        if offset < lower {
-            self.refill(lower, offset)?;
-            Some(true)
-        } else {
-            self.refill(upper, offset - lower)?;
-            Some(false)
+        if self.offset.is_below(lower) {
+            self.refill(lower)?;
+            return Some(true);
         }
+        self.offset.lower(lower);
+        self.refill(upper)?;
+        Some(false)
     }
 
     /// Doubles a range until it is at least 256, and takes as many bits into the offset (9.3.3.2.2).
     #[inline(always)]
-    fn refill(&mut self, range: u16, offset: u16) -> Option<()>
+    fn refill(&mut self, range: u16) -> Option<()>
         requires some { 0 < range }
         requires nine_bits { range < 512 }
-        requires within { offset < range }
+        requires within { self.old.offset < range }
         ensures answer { MatchOption result
             ((length self.old.left < doublings_of range) × (self.new.range ≡ 0))
-            (λ _. Refills range offset self.new.range self.new.offset self.old.left self.new.left) }
+            (λ _. Refills range self.old.offset self.new.range self.new.offset self.old.left self.new.left) }
         ensures kept { self.new.taken ++ self.new.left ≡ self.old.taken ++ self.old.left }
     {
-        if range >= 256 {
-            self.range = range;
-            self.offset = offset;
-            return Some(());
-        }
         let count = doublings(range);
-        match read_u(&mut self.bits, count) {
-            Some(value) => {
-                self.range = range << count;
-                self.offset = (offset << count) + value as u16;
-                Some(())
-            }
-            None => {
-                self.range = 0;
-                None
-            }
+        if !self.offset.double(count) {
+            self.range = 0;
+            return None;
         }
+        self.range = range << count;
+        Some(())
     }
 
     /// Hands the source back, at the bits that are left.
@@ -179,7 +159,7 @@ impl<B: BitSource> Decoder<B> {
         ensures taken { B.taken result ≡ self.taken }
         ensures left { B.left result ≡ self.left }
     {
-        let Decoder { bits, .. } = self;
-        bits
+        let Decoder { offset, .. } = self;
+        offset.into_source()
     }
 }

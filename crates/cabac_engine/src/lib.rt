@@ -11,6 +11,7 @@ mod doubling;
 mod encoder;
 pub mod laws;
 mod low_bits;
+mod offset_bits;
 mod pending_bits;
 
 pub use bin_sink::BinSink;
