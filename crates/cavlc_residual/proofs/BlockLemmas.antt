@@ -2,7 +2,7 @@ use Rattle.cavlc_residual.proofs.CoefficientLemmas.{code_in_range, next_suffix_l
 use Rattle.std.proofs.Common.{◌≡◌, ℕ, zero, suc, ◌+◌, ◌-◌, ◌*◌, ◌<◌, ◌≤◌, ℤ, pos, negsuc, Bool, true, false, ◌||◌, cond, List, [], ◌∷◌, ◌++◌, length, take, drop, sum, filter, reverse, nat_lt, ltb, leb, Option, Some, None, refl, sym, ap, ◌∙◌, subst, arith, ◌⊎◌, inl, inr, length-append}
 use Rattle.std.specs.Option.{option_map}
 use Rattle.std.specs.List.{AllByRecursion}
-use Rattle.std.proofs.lemmas.List.{reverse-append, reverse-reverse, length-reverse, length-replicate, take-append-drop}
+use Rattle.std.proofs.lemmas.List.{append-nil, reverse-append, reverse-reverse, length-reverse, length-replicate, take-append-drop}
 use Rattle.std.proofs.lemmas.Bool.{cases_Bool, false≢true, ltb-true, ltb-false, lt-ltb, le-ltb, leb-true, le-leb, eqb-true, eq-eqb}
 use Rattle.bit_texts.specs.Texts.{Reads, IsPrefixFree, BothAre, both_texts}
 use Rattle.bit_texts.proofs.Reading.{Reads-then, Reads-stop, Reads-map, IsPrefixFree-then, IsPrefixFree-map}
@@ -15,7 +15,7 @@ use Rattle.cavlc_residual.specs.Block.{IsShape, is_nonzero, total_coeff, is_one,
 use Rattle.cavlc_residual.specs.Parts.{IsToken, token_text, AreLevels, scan_of}
 use Rattle.code_tables.proofs.CodeTables.{all_below, all_below-at}
 use Rattle.cavlc_residual.proofs.LevelLemmas.{level_word-small}
-use Rattle.cavlc_residual.proofs.RunLemmas.{IsSize, AreZeros, IsRuns, IsPrefixFree-zeros, IsPrefixFree-runs}
+use Rattle.cavlc_residual.proofs.RunLemmas.{IsSize, AreZeros, IsRuns, zeros_none, IsPrefixFree-zeros, IsPrefixFree-runs}
 use Rattle.cavlc_residual.proofs.PartLemmas.{IsPrefixFree-token, IsPrefixFree-levels, ones_are, FirstIsNoOne, first_suffix_length-small}
 use Rattle.cavlc_residual.proofs.ScanLemmas.{count-reverse, zeros, AllNonzero, expand, reverse-zeros, reverse-scan, length-scan, filter-zeros, runs_of-zeros, filter-expand, runs_of-expand, expand_of, AllNonzero-filter, length-runs_of, length_parts}
 
@@ -415,6 +415,22 @@ block_is_read m nc max bound t o z ls bits mid tail runs e shape h token levels 
     same : (r : Option (List ℕ)) → Reads (IsBlock max bound) (block_text nc) bits (option_map (block_of max) (option_map (λ w. ((t, o), w)) (option_map (λ w. (ls, w)) (option_map (λ rs. (z, rs)) r)))) rest → Reads (IsBlock max bound) (block_text nc) bits (option_map (λ rs. block_of max ((t, o), (ls, (z, rs)))) r) rest
     same None w = w
     same (Some rs) w = w
+
+-- a block of levels 0 is all that a coeff_token with no levels says
+pub none_is_read : (m nc : ℤ) (max bound t o : ℕ) (levels : List ℤ) (bits rest : List Bool) → m ≡ nc → IsShape nc max → bound ≤ 20 → t ≡ 0 → IsToken m max (t, o) × (bits ≡ token_text m (t, o) ++ rest) → levels ≡ zeros max → IsBlock max bound levels × (bits ≡ block_text nc levels ++ rest)
+none_is_read m nc max bound t o levels bits rest e shape h none token all =
+    let first = token_of m nc max (t, o) bits rest e token in
+    let few = (token_entry nc max t o shape first.0.0 first.0.1).0 first.0.2 in
+    let T : ℕ → Type 0 = λ n. IsToken m max (n, o) × (bits ≡ token_text m (n, o) ++ rest) in
+    let O : ℕ → Type 0 = λ n. IsToken m max (0, n) × (bits ≡ token_text m (0, n) ++ rest) in
+    let here = subst O (let k : o ≡ 0 = omega (arith, few, none) in k) (subst T none token) in
+    let P : List ℤ → Type 0 = λ ls. IsBlock max bound ls × (bits ≡ block_text nc ls ++ rest) in
+    let left : max - 0 ≡ max = omega arith in
+    subst P (ap zeros left ∙ sym all)
+    (block_is_read m nc max bound 0 0 0 [] bits rest rest rest e shape h here (record { count = refl; ones = refl; others = tt }, refl) (zeros_none max 0 rest (inl refl) (omega arith)) (Some []) rest ((refl, refl), refl))
+
+pub total_of_none : (n : ℕ) (levels : List ℤ) → levels ≡ zeros n → 0 ≡ total_coeff levels
+total_of_none n levels all = sym (ap total_coeff (all ∙ sym (append-nil (zeros n))) ∙ ap (length {A = ℤ}) (filter-zeros n []))
 
 -- ---- with a bound of 20 no block in range is beyond it
 

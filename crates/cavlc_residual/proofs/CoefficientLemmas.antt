@@ -121,6 +121,9 @@ pub Completes-start : (count bound s extra : ℕ) (left : List Bool) → Complet
 Completes-start count bound s extra left None rest h = h
 Completes-start count bound s extra left (Some ls) rest h = h
 
+pub Completes-from : (count n bound s extra : ℕ) (left : List Bool) (done : List ℤ) → n ≡ count → done ≡ [] → Completes count n bound s extra s extra left left done
+Completes-from count n bound s extra left done all none = rw (all, none) (Completes-start count bound s extra left)
+
 pub Completes-next : (count n m bound s extra s0 extra0 : ℕ) (left0 left mid : List Bool) (done : List ℤ) (l : ℤ) → s ≤ 6 → bound ≤ 20 → n ≡ suc m → Completes count n bound s extra s0 extra0 left0 left done → IsCoefficient s extra bound l × (left ≡ coefficient_text s extra l ++ mid) → Completes count m bound (next_suffix_length s l) 0 s0 extra0 left0 mid (done ++ l ∷ [])
 Completes-next count n m bound s extra s0 extra0 left0 left mid done l h k e completes first r rest others =
     let cons = ReadsList-cons m bound s extra l left mid h k first r rest others in

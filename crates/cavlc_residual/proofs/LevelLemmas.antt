@@ -1,14 +1,20 @@
-use Rattle.std.proofs.Common.{◌≡◌, ℕ, zero, suc, ◌+◌, ◌-◌, ◌*◌, ◌/◌, ◌%◌, ◌^◌, ◌<◌, ◌≤◌, Bool, true, false, cond, List, [], ◌∷◌, ◌++◌, ltb, eqb, replicate, add-zero, zero-add, refl, sym, ap, ◌∙◌, subst, arith, ◌⊎◌, inl, inr, append_assoc, None, Result, add-one, leb}
+use Rattle.std.proofs.Common.{◌≡◌, ◌≢◌, drop-drop, length, take, drop, length-append, ℕ, zero, suc, ◌+◌, ◌-◌, ◌*◌, ◌/◌, ◌%◌, ◌^◌, ◌<◌, ◌≤◌, Bool, true, false, cond, List, [], ◌∷◌, ◌++◌, ltb, eqb, replicate, add-zero, zero-add, refl, sym, ap, ◌∙◌, subst, arith, ◌⊎◌, inl, inr, append_assoc, None, Result, add-one, leb}
 use Rattle.std.proofs.Math.Nat.{suc-add}
 use Rattle.std.proofs.lemmas.Bool.{cases_lt, lt-ltb, le-ltb, eqb-true, leb-true}
 use Rattle.bit_texts.specs.Bits.{binary}
 use Rattle.bit_texts.specs.Texts.{Reads, IsPrefixFree, Appends}
-use Rattle.bit_texts.proofs.Reading.{IsPrefixFree-binary, IsPrefixFree-then, Reads-then}
+use Rattle.bit_texts.proofs.Reading.{IsPrefixFree-binary, IsPrefixFree-then}
 use Rattle.code_tables.proofs.CodeTables.{all_below, all_below-at}
 use Rattle.bit_texts.proofs.Writing.{Appends-same}
 use Rattle.bit_texts.proofs.Numbers.{binary-add, binary-high, pow_next, pow_most}
 use Rattle.std.proofs.lemmas.Nat.{div-add-mod', div_below, mod_below, pow_pos, shr_high}
-use Rattle.cavlc_residual.proofs.WindowLemmas.{zeros_first, binary-prefix}
+use Rattle.std.specs.Int.Count.{count_leading_zeros}
+use Rattle.std.proofs.lemmas.List.{length-drop, take-append-drop}
+use Rattle.bit_texts.specs.Bits.{number, first}
+use Rattle.bit_texts.proofs.Numbers.{length-binary}
+use Rattle.bit_texts.proofs.Reading.{binary-take}
+use Rattle.bit_texts.proofs.Windows.{first-take, number-first_below, number-window_behind}
+use Rattle.cavlc_residual.proofs.WindowLemmas.{zeros_first, binary-prefix, prefix_size, prefix_above, prefix_found}
 use Rattle.cavlc_residual.specs.Level.{prefix_bits, suffix_size, word_bits, IsLevelWord, level_code, word_from, level_word}
 
 -- ---- level_prefix
@@ -77,11 +83,37 @@ word_from-finds (suc n) s p x = cases n s p x (cases_lt x (2 ^ suffix_size s p))
 
 -- ---- reading and writing a word
 
-pub no_level : (s bound p size : ℕ) (left mid rest : List Bool) → (p ≤ bound) × (left ≡ prefix_bits p ++ mid) → size ≡ suffix_size s p → Reads (λ v. v < 2 ^ size) (binary size) mid None rest → Reads (IsLevelWord s bound) (word_bits s) left None rest
-no_level s bound p size left mid rest first e none =
-    let P : ℕ → Type 0 = λ n. Reads (λ v. v < 2 ^ n) (binary n) mid None rest in
-    Reads-then (λ q. q ≤ bound) prefix_bits (λ q x. x < 2 ^ suffix_size s q) (λ q. binary (suffix_size s q))
-    (IsPrefixFree-prefix bound) p left mid first.0 first.1 None rest (subst P e none)
+pub no_level : (s bound : ℕ) (left rest : List Bool) → ((p : ℕ) (more : List Bool) → p ≤ bound → left ≢ prefix_bits p ++ more) → Reads (IsLevelWord s bound) (word_bits s) left None rest
+no_level s bound left rest none = λ w more is bad.
+    let suffix = binary (suffix_size s w.0) w.1 in
+    none w.0 (suffix ++ more) is.0 (bad ∙ append_assoc (prefix_bits w.0) suffix more)
+
+pub level_cut : (s window z bound size : ℕ) (left rest : List Bool) → window ≡ number (first 64 left) → z ≡ count_leading_zeros 64 window → bound ≤ 20 → z ≤ bound → size ≡ suffix_size s z → length left < z + 1 + size → Reads (IsLevelWord s bound) (word_bits s) left None rest
+level_cut s window z bound size left rest e zeros h within same short = λ w more is bad.
+    let suffix = binary (suffix_size s w.0) w.1 in
+    let front : left ≡ prefix_bits w.0 ++ (suffix ++ more) = bad ∙ append_assoc (prefix_bits w.0) suffix more in
+    let least = prefix_above window z w.0 left (suffix ++ more) e zeros (omega (arith, is.0)) front in
+    let found = prefix_found window z bound left (drop (z + 1) left) e zeros h within (omega (arith, least.0, least.1)) refl in
+    let prefix : z ≡ w.0 = IsPrefixFree-prefix bound z w.0 (drop (z + 1) left) (suffix ++ more) within is.0 (sym found.1 ∙ front) in
+    let sizes = ap (suffix_size s) prefix in
+    omega (arith, ap length front, length-append (prefix_bits w.0) (suffix ++ more), length-append suffix more, prefix_size w.0, length-binary (suffix_size s w.0) w.1, prefix, sizes, same, short)
+
+pub level_found : (s window z bound size n x : ℕ) (left new : List Bool) → window ≡ number (first 64 left) → z ≡ count_leading_zeros 64 window → bound ≤ 20 → z ≤ bound → size ≡ suffix_size s z → size ≤ 17 → n ≡ z + 1 + size → n ≤ length left → new ≡ drop n left → x ≡ window / 2 ^ (64 - n) % 2 ^ size → IsLevelWord s bound (z, x) × (left ≡ word_bits s (z, x) ++ new)
+level_found s window z bound size n x left new e zeros h within same few count room rest value =
+    let mid = drop (z + 1) left in
+    let found = prefix_found window z bound left mid e zeros h within (omega (arith, count, room)) refl in
+    let whole : 64 ≡ z + 1 + size + (64 - n) = omega (arith, count, few, within, h) in
+    let number_is : x ≡ number (first size mid) =
+    value ∙ ap (λ k. k / 2 ^ (64 - n) % 2 ^ size) (e ∙ ap (λ k. number (first k left)) whole) ∙ number-window_behind (z + 1) size (64 - n) left in
+    let long : size ≤ length mid = omega (arith, length-drop (z + 1) left, count, room) in
+    let front : binary size x ≡ take size mid = ap (binary size) (number_is ∙ ap number (first-take size mid long)) ∙ binary-take size mid long in
+    let behind : drop size mid ≡ new = drop-drop size (z + 1) left ∙ (ap (λ k. drop k left) (sym count) ∙ sym rest) in
+    let cut : mid ≡ binary size x ++ new = sym (take-append-drop size mid) ∙ (ap (λ t. t ++ drop size mid) (sym front) ∙ ap (λ t. binary size x ++ t) behind) in
+    let P : ℕ → Type 0 = λ k. x < 2 ^ k in
+    let Q : ℕ → Type 0 = λ k. left ≡ (prefix_bits z ++ binary k x) ++ new in (
+      (within, subst P same (subst (λ v. v < 2 ^ size) (sym number_is) (number-first_below size mid))),
+      subst Q same (found.1 ∙ (ap (λ t. prefix_bits z ++ t) cut ∙ sym (append_assoc (prefix_bits z) (binary size x) new))),
+    )
 
 -- ---- the words and levelCode
 

@@ -201,3 +201,12 @@ levels_read t o bound s e h k a bits mid first length_is extra_is r rest others 
     let P : ℕ → Type 0 = λ n. ReadsList (t - o) bound n e mid r rest in
     let Q : ℕ → Type 0 = λ n. ReadsList (t - o) bound (first_suffix_length t o) n mid r rest in
     levels_reads (t, o) bound h k a bits mid first r rest (subst Q extra_is (subst P length_is others))
+
+-- the others were appended to a list of the trailing ones
+pub levels_appended : (t o bound s e n : ℕ) → o ≤ t → o ≤ 3 → (a new : List ℤ) (bits mid : List Bool) → take n new ≡ a → AreOnes o a × (bits ≡ map is_minus a ++ mid) → s ≡ first_suffix_length t o → e ≡ first_extra o
+    → (r : Option (Unit {0})) (rest : List Bool) → ReadsList (t - o) bound s e mid (option_map (λ _. drop n new) r) rest → Reads (AreLevels (t, o) bound) levels_text bits (option_map (λ _. new) r) rest
+levels_appended t o bound s e n h k a new bits mid front first length_is extra_is None rest others =
+    levels_read t o bound s e h k a bits mid first length_is extra_is None rest others
+levels_appended t o bound s e n h k a new bits mid front first length_is extra_is (Some done) rest others =
+    let P : List ℤ → Type 0 = λ ls. AreLevels (t, o) bound ls × (bits ≡ levels_text ls ++ rest) in
+    subst P (ap (λ b. b ++ drop n new) (sym front) ∙ take-append-drop n new) (levels_read t o bound s e h k a bits mid first length_is extra_is (Some (drop n new)) rest others)

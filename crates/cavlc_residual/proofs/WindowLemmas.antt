@@ -127,11 +127,11 @@ zeros_first (suc p) (suc v) x y e =
     let h = zeros_first p v x y tail in
     (h.0, omega arith, h.2)
 
-prefix_size : (p : ℕ) → length (prefix_bits p) ≡ p + 1
+pub prefix_size : (p : ℕ) → length (prefix_bits p) ≡ p + 1
 prefix_size p = length-append (replicate p false) (true ∷ []) ∙ ap (λ n. n + 1) (length-replicate p false)
 
 -- a level_prefix has at least the zeros of the window
-prefix_above : (window z p : ℕ) (left more : List Bool) → window ≡ number (first 64 left) → z ≡ count_leading_zeros 64 window → p ≤ 20 → left ≡ prefix_bits p ++ more → (z ≤ p) × (p < length left)
+pub prefix_above : (window z p : ℕ) (left more : List Bool) → window ≡ number (first 64 left) → z ≡ count_leading_zeros 64 window → p ≤ 20 → left ≡ prefix_bits p ++ more → (z ≤ p) × (p < length left)
 prefix_above window z p left more e zeros h is =
     let here = text_in_window left (prefix_bits p) more is (omega (arith, prefix_size p, h)) in
     let front = zeros_in_window window z left e zeros in

@@ -48,7 +48,12 @@ pub fn read_levels<B: BitSource>(b: &mut B, nc: i8, levels: &mut [i32], bound: u
 {
     let max = levels.len() as u8;
     let (total, ones) = read_token(b, nc, max)?;
-    let coefficients = read_nonzero(b, total, ones, bound)?;
+    if total == 0 {
+        levels.fill(0);
+        return Some(0);
+    }
+    let mut coefficients = Coefficients::new();
+    read_nonzero(b, total, ones, bound, &mut coefficients)?;
     let zeros = read_total_zeros(b, max, total)?;
     let runs = read_runs(b, total, zeros)?;
     place(levels, &coefficients, &runs);

@@ -1,4 +1,5 @@
-ghost use Rattle.std.specs.Prelude.{◌≡◌, ◌-◌, ◌<◌, ◌≤◌, ◌++◌, length, nat_lt, option_map};
+ghost use Rattle.std.specs.Prelude.{◌≡◌, ◌+◌, ◌-◌, ◌<◌, ◌≤◌, ◌++◌, length, take, drop, nat_lt, option_map};
+ghost use Rattle.arrayvec.specs.ArrayVec.{array_vec_len};
 ghost use Rattle.bit_texts.specs.Texts.{Reads, Appends};
 ghost use Rattle.cavlc_residual.specs.Level.{level_word};
 ghost use Rattle.cavlc_residual.specs.Coefficients.{magnitude, code_of, next_suffix_length, coefficient_text, IsCoefficient, coefficients_text, AreCoefficients};
@@ -102,28 +103,29 @@ pub fn write_coefficient<B: BitSink>(
     write_level(b, suffix_length, prefix, suffix)
 }
 
-/// Reads `count` levels, the first of which has `extra` taken off its levelCode.
+/// Reads `count` levels, the first of which has `extra` taken off its levelCode, and appends them to a list.
 pub fn read_coefficients<B: BitSource>(
     b: &mut B,
     count: u8,
     suffix_length: u8,
     extra: u8,
     bound: u8,
-) -> Option<Coefficients>
-    requires few { count ≤ 16 }
+    levels: &mut Coefficients,
+) -> Option<()>
+    requires room { array_vec_len levels.old + count ≤ 16 }
     requires small { suffix_length ≤ 6 }
     requires within { bound ≤ 20 }
-    ensures reads { Reads (λ ls. (length ls ≡ count) × AreCoefficients bound suffix_length extra ls) (coefficients_text suffix_length extra) (B.left b.old) (option_map (λ v. v.items) result) (B.left b.new) }
+    ensures reads { Reads (λ ls. (length ls ≡ count) × AreCoefficients bound suffix_length extra ls) (coefficients_text suffix_length extra) (B.left b.old) (option_map (λ _. drop (array_vec_len levels.old) levels.new.items) result) (B.left b.new) }
+    ensures before { take (array_vec_len levels.old) levels.new.items ≡ levels.old.items }
     ensures kept { B.taken b.new ++ B.left b.new ≡ B.taken b.old ++ B.left b.old }
 {
-    let mut coefficients = Coefficients::new();
     let mut suffix_length = suffix_length;
     let mut extra = extra;
     for _i in 0..count {
         let level = read_coefficient(b, suffix_length, extra, bound)?;
-        coefficients.push(level);
+        levels.push(level);
         suffix_length = suffix_length_after(suffix_length, level);
         extra = 0;
     }
-    Some(coefficients)
+    Some(())
 }

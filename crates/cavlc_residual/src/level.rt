@@ -2,24 +2,8 @@ ghost use Rattle.std.specs.Prelude.{◌≡◌, ◌<◌, ◌≤◌, ◌++◌, IfS
 ghost use Rattle.bit_texts.specs.Texts.{Reads, Appends};
 ghost use Rattle.cavlc_residual.specs.Level.{prefix_bits, suffix_size, level_code, level_word, word_bits, IsLevelWord};
 
-use exp_golomb::{BitSink, BitSource, read_u};
+use exp_golomb::{BitSink, BitSource};
 use std::alloc::AllocError as Memory;
-
-/// Reads a level_prefix of at most `bound`: that many zeros and a one.
-fn read_prefix<B: BitSource>(b: &mut B, bound: u8) -> Option<u8>
-    requires { bound ≤ 20 }
-    ensures reads { Reads (λ p. p ≤ bound) prefix_bits (B.left b.old) result (B.left b.new) }
-    ensures kept { B.taken b.new ++ B.left b.new ≡ B.taken b.old ++ B.left b.old }
-{
-    let zeros = b.window().leading_zeros() as u8;
-    if zeros > bound {
-        return None;
-    }
-    if !b.skip(zeros + 1) {
-        return None;
-    }
-    Some(zeros)
-}
 
 /// The number of bits of level_suffix.
 fn size_of_suffix(suffix_length: u8, prefix: u8) -> u8
@@ -44,9 +28,18 @@ pub fn read_level<B: BitSource>(b: &mut B, suffix_length: u8, bound: u8) -> Opti
     ensures reads { Reads (IsLevelWord suffix_length bound) (word_bits suffix_length) (B.left b.old) result (B.left b.new) }
     ensures kept { B.taken b.new ++ B.left b.new ≡ B.taken b.old ++ B.left b.old }
 {
-    let prefix = read_prefix(b, bound)?;
-    let suffix = read_u(b, size_of_suffix(suffix_length, prefix))?;
-    Some((prefix, suffix))
+    let window = b.window();
+    let prefix = window.leading_zeros() as u8;
+    if prefix > bound {
+        return None;
+    }
+    let size = size_of_suffix(suffix_length, prefix);
+    let length = prefix + 1 + size;
+    if !b.skip(length) {
+        return None;
+    }
+    let suffix = (window >> (64 - length)) % (1 << size);
+    Some((prefix, suffix as u32))
 }
 
 /// levelCode of a level_prefix and a level_suffix.

@@ -1,5 +1,4 @@
-ghost use Rattle.std.specs.Prelude.{◌≡◌, ◌+◌, ◌<◌, ◌≤◌, ◌++◌, map, option_map};
-ghost use Rattle.arrayvec.specs.ArrayVec.{array_vec_len};
+ghost use Rattle.std.specs.Prelude.{◌≡◌, ◌≤◌, [], ◌++◌, map, option_map};
 ghost use Rattle.bit_texts.specs.Texts.{Reads};
 ghost use Rattle.cavlc_residual.specs.Coefficients.{is_minus};
 ghost use Rattle.cavlc_residual.specs.Block.{first_suffix_length, first_extra, levels_text};
@@ -23,28 +22,18 @@ pub fn read_token<B: BitSource>(b: &mut B, nc: i8, max: u8) -> Option<(u8, u8)>
     Some((total, place % 4))
 }
 
-/// Reads the signs of the trailing ones.
-fn read_ones<B: BitSource>(b: &mut B, count: u8) -> Option<Coefficients>
-    requires { count ≤ 3 }
-    ensures reads { Reads (AreOnes count) (map is_minus) (B.left b.old) (option_map (λ v. v.items) result) (B.left b.new) }
+/// Reads the signs of the trailing ones into a list.
+fn read_ones<B: BitSource>(b: &mut B, count: u8, ones: &mut Coefficients) -> Option<()>
+    requires few { count ≤ 3 }
+    requires empty { ones.old.items ≡ [] }
+    ensures reads { Reads (AreOnes count) (map is_minus) (B.left b.old) (option_map (λ _. ones.new.items) result) (B.left b.new) }
     ensures kept { B.taken b.new ++ B.left b.new ≡ B.taken b.old ++ B.left b.old }
 {
-    let mut ones = Coefficients::new();
     for _i in 0..count {
         let minus = b.bit()?;
         ones.push(if minus { -1 } else { 1 });
     }
-    Some(ones)
-}
-
-/// Appends levels to others.
-fn append(levels: &mut Coefficients, more: &Coefficients)
-    requires { array_vec_len levels.old + array_vec_len more.now ≤ 16 }
-    ensures { levels.new.items ≡ levels.old.items ++ more.now.items }
-{
-    for level in more.as_slice() {
-        levels.push(*level);
-    }
+    Some(())
 }
 
 /// suffixLength of the first level that is no trailing one.
@@ -63,18 +52,30 @@ pub fn extra_first(ones: u8) -> u8
     if ones < 3 { 2 } else { 0 }
 }
 
-/// Reads the levels other than 0, from the highest frequency down.
-pub fn read_nonzero<B: BitSource>(b: &mut B, total: u8, ones: u8, bound: u8) -> Option<Coefficients>
+/// Reads the levels other than 0, from the highest frequency down, into a list.
+pub fn read_nonzero<B: BitSource>(
+    b: &mut B,
+    total: u8,
+    ones: u8,
+    bound: u8,
+    levels: &mut Coefficients,
+) -> Option<()>
     requires few { total ≤ 16 }
     requires ones { ones ≤ total }
     requires ones_small { ones ≤ 3 }
     requires within { bound ≤ 20 }
-    ensures reads { Reads (AreLevels (total, ones) bound) levels_text (B.left b.old) (option_map (λ v. v.items) result) (B.left b.new) }
+    requires empty { levels.old.items ≡ [] }
+    ensures reads { Reads (AreLevels (total, ones) bound) levels_text (B.left b.old) (option_map (λ _. levels.new.items) result) (B.left b.new) }
     ensures kept { B.taken b.new ++ B.left b.new ≡ B.taken b.old ++ B.left b.old }
 {
-    let mut levels = read_ones(b, ones)?;
+    read_ones(b, ones, levels)?;
     let suffix_length = suffix_length_first(total, ones);
-    let others = read_coefficients(b, total - ones, suffix_length, extra_first(ones), bound)?;
-    append(&mut levels, &others);
-    Some(levels)
+    read_coefficients(
+        b,
+        total - ones,
+        suffix_length,
+        extra_first(ones),
+        bound,
+        levels,
+    )
 }

@@ -1,9 +1,9 @@
-use Rattle.std.proofs.Common.{◌≡◌, ℤ, List, length, ◌++◌, Some, None, ap, sym, subst, w8, arith}
+use Rattle.std.proofs.Common.{◌≡◌, ℤ, pos, List, length, replicate, ◌++◌, Some, None, ap, sym, subst, w8, arith, rules}
 use Rattle.std.specs.Option.{option_map}
 use Rattle.std.proofs.lemmas.Int.{to_z-of_z}
 use Rattle.bit_texts.proofs.Reading.{Reads-None}
 use Rattle.cavlc_residual.specs.Block.{block_text, IsBlock}
-use Rattle.cavlc_residual.proofs.BlockLemmas.{token_entry, token_of, size_of_shape, size-small, ends_at_token, ends_at_levels, ends_at_zeros, block_is_read, total_of}
+use Rattle.cavlc_residual.proofs.BlockLemmas.{token_entry, token_of, size_of_shape, size-small, ends_at_token, ends_at_levels, ends_at_zeros, block_is_read, none_is_read, total_of, total_of_none}
 use Rattle.cavlc_residual.proofs.block.read_levels.Goals as goal
 
 pub returns-in_err-total-clause-reads : goal.returns-in_err-total-clause-reads
@@ -19,10 +19,10 @@ read_nonzero-requires-clause-ones g c =
 pub read_nonzero-requires-clause-few : goal.read_nonzero-requires-clause-few
 read_nonzero-requires-clause-few g c = omega (arith, c.in_ok-total.ensures.reads.0.0, size-small (length c.args.levels.now) (size_of_shape c.args.nc (length c.args.levels.now) c.requires.shape))
 
-pub returns-in_err-coefficients-clause-reads : goal.returns-in_err-coefficients-clause-reads
-returns-in_err-coefficients-clause-reads g c =
-    Reads-None _ _ _ _ _ (ap (option_map _) c.from_residual-in_err-coefficients.ensures)
-    (ends_at_levels _ c.args.nc (length c.args.levels.now) c.args.bound (c.in_ok-total.total, c.in_ok-total.ones) _ _ (g.B.BitSource.left c.read_nonzero.new.b) (to_z-of_z w8 c.args.nc c.ranges.nc) c.requires.shape c.in_ok-total.ensures.reads c.in_err-coefficients.ensures.reads)
+pub returns-in_err-read_nonzero-clause-reads : goal.returns-in_err-read_nonzero-clause-reads
+returns-in_err-read_nonzero-clause-reads g c =
+    Reads-None _ _ _ _ _ (ap (option_map _) c.from_residual-in_err-read_nonzero.ensures)
+    (ends_at_levels _ c.args.nc (length c.args.levels.now) c.args.bound (c.in_ok-total.total, c.in_ok-total.ones) _ _ (g.B.BitSource.left c.read_nonzero.new.b) (to_z-of_z w8 c.args.nc c.ranges.nc) c.requires.shape c.in_ok-total.ensures.reads c.in_err-read_nonzero.ensures.reads)
 
 pub read_total_zeros-requires-clause-size : goal.read_total_zeros-requires-clause-size
 read_total_zeros-requires-clause-size g c = size_of_shape c.args.nc (length c.args.levels.now) c.requires.shape
@@ -30,7 +30,7 @@ read_total_zeros-requires-clause-size g c = size_of_shape c.args.nc (length c.ar
 pub returns-in_err-zeros-clause-reads : goal.returns-in_err-zeros-clause-reads
 returns-in_err-zeros-clause-reads g c =
     Reads-None _ _ _ _ _ (ap (option_map _) c.from_residual-in_err-zeros.ensures)
-    (ends_at_zeros _ c.args.nc (length c.args.levels.now) c.args.bound c.in_ok-total.total c.in_ok-total.ones c.in_ok-coefficients.coefficients.items _ _ _ (g.B.BitSource.left c.read_total_zeros.new.b) (to_z-of_z w8 c.args.nc c.ranges.nc) c.requires.shape c.requires.within c.in_ok-total.ensures.reads c.in_ok-coefficients.ensures.reads c.in_err-zeros.ensures.reads)
+    (ends_at_zeros _ c.args.nc (length c.args.levels.now) c.args.bound c.in_ok-total.total c.in_ok-total.ones c.read_nonzero.new.levels.items _ _ _ (g.B.BitSource.left c.read_total_zeros.new.b) (to_z-of_z w8 c.args.nc c.ranges.nc) c.requires.shape c.requires.within c.in_ok-total.ensures.reads c.in_ok-read_nonzero.ensures.reads c.in_err-zeros.ensures.reads)
 
 pub read_runs-requires-clause-fits : goal.read_runs-requires-clause-fits
 read_runs-requires-clause-fits g c = omega (arith, c.in_ok-zeros.ensures.reads.0.0, size-small (length c.args.levels.now) (size_of_shape c.args.nc (length c.args.levels.now) c.requires.shape))
@@ -38,14 +38,23 @@ read_runs-requires-clause-fits g c = omega (arith, c.in_ok-zeros.ensures.reads.0
 pub returns-in_err-runs-clause-reads : goal.returns-in_err-runs-clause-reads
 returns-in_err-runs-clause-reads g c =
     Reads-None _ _ _ _ _ (ap (option_map _) c.from_residual-in_err-runs.ensures)
-    (block_is_read _ c.args.nc (length c.args.levels.now) c.args.bound c.in_ok-total.total c.in_ok-total.ones c.in_ok-zeros.zeros c.in_ok-coefficients.coefficients.items _ _ _ _ (to_z-of_z w8 c.args.nc c.ranges.nc) c.requires.shape c.requires.within c.in_ok-total.ensures.reads c.in_ok-coefficients.ensures.reads c.in_ok-zeros.ensures.reads None (g.B.BitSource.left c.read_runs.new.b) c.in_err-runs.ensures.reads)
+    (block_is_read _ c.args.nc (length c.args.levels.now) c.args.bound c.in_ok-total.total c.in_ok-total.ones c.in_ok-zeros.zeros c.read_nonzero.new.levels.items _ _ _ _ (to_z-of_z w8 c.args.nc c.ranges.nc) c.requires.shape c.requires.within c.in_ok-total.ensures.reads c.in_ok-read_nonzero.ensures.reads c.in_ok-zeros.ensures.reads None (g.B.BitSource.left c.read_runs.new.b) c.in_err-runs.ensures.reads)
 
 pub returns-clause-reads : goal.returns-clause-reads
 returns-clause-reads g c =
     let P : List ℤ → Type 0 = λ levels. IsBlock (length c.args.levels.now) c.args.bound levels × (g.B.BitSource.left c.args.b.now ≡ block_text c.args.nc levels ++ g.B.BitSource.left c.read_runs.new.b) in
     subst P (sym c.place.ensures)
-    (block_is_read _ c.args.nc (length c.args.levels.now) c.args.bound c.in_ok-total.total c.in_ok-total.ones c.in_ok-zeros.zeros c.in_ok-coefficients.coefficients.items _ _ _ _ (to_z-of_z w8 c.args.nc c.ranges.nc) c.requires.shape c.requires.within c.in_ok-total.ensures.reads c.in_ok-coefficients.ensures.reads c.in_ok-zeros.ensures.reads (Some c.in_ok-runs.runs.items) _ c.in_ok-runs.ensures.reads)
+    (block_is_read _ c.args.nc (length c.args.levels.now) c.args.bound c.in_ok-total.total c.in_ok-total.ones c.in_ok-zeros.zeros c.read_nonzero.new.levels.items _ _ _ _ (to_z-of_z w8 c.args.nc c.ranges.nc) c.requires.shape c.requires.within c.in_ok-total.ensures.reads c.in_ok-read_nonzero.ensures.reads c.in_ok-zeros.ensures.reads (Some c.in_ok-runs.runs.items) _ c.in_ok-runs.ensures.reads)
 
 pub returns-clause-total : goal.returns-clause-total
 returns-clause-total g c =
-    total_of c.in_ok-total.total c.in_ok-total.ones c.args.bound _ c.in_ok-coefficients.coefficients.items c.in_ok-runs.runs.items _ c.in_ok-coefficients.ensures.reads.0 c.in_ok-runs.ensures.reads.0.0 c.place.ensures
+    total_of c.in_ok-total.total c.in_ok-total.ones c.args.bound _ c.read_nonzero.new.levels.items c.in_ok-runs.runs.items _ c.in_ok-read_nonzero.ensures.reads.0 c.in_ok-runs.ensures.reads.0.0 c.place.ensures
+
+pub returns-then-total-eq0-clause-reads : goal.returns-then-total-eq0-clause-reads
+returns-then-total-eq0-clause-reads g c =
+    let all : c.fill.new.self ≡ replicate (length c.args.levels.now) (pos 0) = search rules in
+    none_is_read _ c.args.nc (length c.args.levels.now) c.args.bound c.in_ok-total.total c.in_ok-total.ones _ _ _ (to_z-of_z w8 c.args.nc c.ranges.nc) c.requires.shape c.requires.within c.if-total-eq0.true c.in_ok-total.ensures.reads all
+
+pub returns-then-total-eq0-clause-total : goal.returns-then-total-eq0-clause-total
+returns-then-total-eq0-clause-total g c =
+    let all : c.fill.new.self ≡ replicate (length c.args.levels.now) (pos 0) = search rules in total_of_none (length c.args.levels.now) _ all
