@@ -7,6 +7,7 @@ use exp_golomb::{BitSink, BitSource};
 use std::alloc::AllocError as Memory;
 
 /// Reads a code word of the table: its place. None exactly where no word of the table begins the bits left.
+#[inline(always)]
 pub fn read_code<B: BitSource>(b: &mut B, table: &CodeTable) -> Option<u8>
     requires { IsCodeTable table.now }
     ensures reads { Reads (IsEntry table.now) (word_at table.now) (B.left b.old) result (B.left b.new) }
@@ -21,6 +22,7 @@ pub fn read_code<B: BitSource>(b: &mut B, table: &CodeTable) -> Option<u8>
 }
 
 /// Appends the code word at a place of a table, or nothing where there is none.
+#[inline(always)]
 pub fn write_code<B: BitSink>(b: &mut B, table: &CodeTable, place: usize) -> Result<(), Memory>
     requires { IsCodeTable table.now }
     ensures { Appends (B.bits b.old) (B.bits b.new) (word_at table.now place) result }
