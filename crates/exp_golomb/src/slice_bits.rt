@@ -28,7 +28,7 @@ impl<'a> Model for SliceBits<'a> {
 }
 
 impl<'a> SliceBits<'a> {
-    ghost use Rattle.std.specs.Prelude.{◌≡◌, []};
+    ghost use Rattle.std.specs.Prelude.{◌≡◌, [], ◌++◌};
     ghost use Rattle.bit_texts.specs.Bits.{bits_of};
 
     /// All bits of these bytes, with none taken.
@@ -41,6 +41,24 @@ impl<'a> SliceBits<'a> {
             place: 0,
             used: 0,
         }
+    }
+
+    /// The same bits, of which as many are taken.
+    pub fn again(&self) -> SliceBits<'a>
+        ensures { result ≡ self.now }
+    {
+        SliceBits {
+            bytes: self.bytes,
+            place: self.place,
+            used: self.used,
+        }
+    }
+
+    /// The bytes that all its bits are.
+    pub fn bytes(&self) -> &'a [u8]
+        ensures { bits_of result.now ≡ self.now.taken ++ self.now.left }
+    {
+        self.bytes
     }
 }
 

@@ -5,4 +5,4 @@
 pub mod laws;
 mod normal;
 
-pub use normal::{Emptied, fix, normalise};
+pub use normal::{Emptied, fix, is_normal, normalise};

@@ -35,6 +35,15 @@ pub fn normalise(mb: &mut Mb) -> Result<(), Emptied>
     Ok(())
 }
 
+/// Whether a macroblock stays as it is in [`normalise`], which doesn't refuse it.
+pub fn is_normal(mb: &Mb) -> bool
+    ensures { IsTrue result ↔ ((normal mb.now ≡ mb.now) × (IsEmptied mb.now → ⊥)) }
+{
+    let luma = luma_with_levels(mb);
+    let has_t8_alone = mb.t8 && luma == 0 && mb.kind.is_inter();
+    luma == mb.pattern.luma && !has_t8_alone && !is_emptied(mb, luma)
+}
+
 /// Whether a macroblock with this luma pattern has no place for its mb_qp_delta, which isn't 0 (7.3.5).
 fn is_emptied(mb: &Mb, luma: u8) -> bool
     requires { luma ≡ normal_luma mb.now }
