@@ -43,7 +43,7 @@ impl<B: BitSource> BinSource for InCoder<B> {
 
     ghost over = { λ d. nat_lt d.decoder.range 256 };
 
-    #[inline(always)]
+    #[inline(never)]
     fn bin(&mut self, ctx: u16) -> Option<bool> {
         let mut cell = self.contexts.cell(ctx);
         let bit = self.decoder.bin(&mut cell)?;

@@ -48,12 +48,11 @@ impl<B: BitSink> BinSink for OutCoder<B> {
 
     ghost over = { λ e. nat_lt e.encoder.range 256 };
 
-    #[inline(always)]
+    #[inline(never)]
     fn bin(&mut self, ctx: u16, bit: bool) -> Result<(), Memory> {
-        let mut cell = self.contexts.cell(ctx);
-        self.encoder.bin(&mut cell, bit)?;
-        self.contexts.set_cell(ctx, cell);
-        Ok(())
+        let cell = self.contexts.cell(ctx);
+        self.contexts.set_cell(ctx, cell.after(bit));
+        self.encoder.encode(cell, bit)
     }
 
     #[inline(always)]

@@ -1,5 +1,6 @@
 -- What a further bin makes of an encoder.
 use Rattle.std.proofs.Common.{◌≡◌, ℕ, ◌+◌, ◌-◌, ◌*◌, ◌/◌, ◌%◌, ◌^◌, ◌<◌, ◌≤◌, inr, Bool, true, false, List, [], ◌∷◌, ◌++◌, length, refl, sym, ap, subst, ◌∙◌, arith, cond, bit_and, length-append}
+use Rattle.std.specs.Prelude.{Result, Ok, Err, OnOk}
 use Rattle.std.specs.Bool.{beq}
 use Rattle.std.specs.Int.{from_bool}
 use Rattle.std.proofs.lemmas.Nat.{and_mask, pow-add}
@@ -82,6 +83,11 @@ pub lps_encoded : (p lps r range : ℕ) → lps ≡ range_lps p (bit_and (r / 64
 lps_encoded p lps r range h e =
     let quarter : bit_and (r / 64) 3 ≡ r / 64 % 4 = and_mask (r / 64) 2 in
     h ∙ ap (range_lps p) quarter ∙ ap (lps_of p) e
+
+-- both hold where nothing was refused
+pub on_both : {T E P Q R : Type 0} (r : Result T E) → (P → Q → R) → OnOk r P → OnOk r Q → OnOk r R
+on_both (Ok x) f p q = f p q
+on_both (Err e) f p q = tt
 
 -- ---- a bypass bin
 

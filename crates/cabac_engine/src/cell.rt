@@ -12,19 +12,20 @@ pub struct Cell {
 }
 
 impl Cell {
-    /// Goes on by one bin (9.3.3.2.1.1).
+    /// The context after one more bin (9.3.3.2.1.1).
     #[inline(always)]
-    pub(crate) fn update(&mut self, bit: bool)
-        ensures p { self.new.p ≡ next_p self.old.p self.old.mps bit }
-        ensures mps { self.new.mps ≡ next_mps self.old.p self.old.mps bit }
+    pub fn after(self, bit: bool) -> Cell
+        ensures p { result.p ≡ next_p self.p self.mps bit }
+        ensures mps { result.mps ≡ next_mps self.p self.mps bit }
     {
-        if bit == self.mps {
-            self.p = (self.p + 1).min(62);
+        let Cell { p, mps } = self;
+        if bit == mps {
+            let p = (p + 1).min(62);
+            Cell { p, mps }
         } else {
-            if self.p == 0 {
-                self.mps = !self.mps;
-            }
-            self.p = trans_lps(self.p);
+            let mps = if p == 0 { !mps } else { mps };
+            let p = trans_lps(p);
+            Cell { p, mps }
         }
     }
 }

@@ -69,7 +69,7 @@ impl<B: BitSource> Decoder<B> {
         let lps = range_lps(cell.p, ((self.range >> 6) & 3) as u8);
         let probable = self.narrow(lps)?;
         let bit = probable == cell.mps;
-        cell.update(bit);
+        *cell = cell.after(bit);
         Some(bit)
     }
 

@@ -58,15 +58,26 @@ impl<B: BitSink> Encoder<B> {
         ensures p { OnOk result (cell.new.p ≡ next_p cell.old.p cell.old.mps bit) }
         ensures mps { OnOk result (cell.new.mps ≡ next_mps cell.old.p cell.old.mps bit) }
     {
+        let was = *cell;
+        *cell = was.after(bit);
+        self.encode(was, bit)
+    }
+
+    /// Encodes a bin of a context that stands at this cell (9.3.4.2). After an `Err` nothing more may be encoded.
+    #[inline(always)]
+    pub fn encode(&mut self, cell: Cell, bit: bool) -> Result<(), Memory>
+        requires { IsEncoding self.old }
+        ensures bin { OnOk result (Encodes (context cell.p cell.mps) bit self.old self.new) }
+        ensures open { OnOk result (IsEncoding self.new) }
+        ensures err { OnErr result (self.new.range ≡ 0) }
+    {
         let lps = range_lps(cell.p, ((self.range >> 6) & 3) as u8);
         let lower = self.range - lps;
         if bit == cell.mps {
-            self.renormalise(0, lower)?;
+            self.renormalise(0, lower)
         } else {
-            self.renormalise(lower, lps)?;
+            self.renormalise(lower, lps)
         }
-        cell.update(bit);
-        Ok(())
     }
 
     /// Encodes a bypass bin (9.3.4.4). After an `Err` nothing more may be encoded.
@@ -81,10 +92,13 @@ impl<B: BitSink> Encoder<B> {
         let upper = if bit { range } else { 0 };
         let register = 2 * self.low.register + u64::from(upper);
         let gathered = self.low.gathered + 1;
-        self.range = 0;
-        self.low.keep(register, gathered)?;
-        self.range = range;
-        Ok(())
+        match self.low.keep(register, gathered) {
+            Ok(()) => Ok(()),
+            Err(memory) => {
+                self.range = 0;
+                Err(memory)
+            }
+        }
     }
 
     /// Encodes an end bin, of which 1 ends the segment (9.3.4.5). After an `Err` nothing more may be encoded.
@@ -121,10 +135,14 @@ impl<B: BitSink> Encoder<B> {
         let count = doublings(range);
         let register = register << count;
         let gathered = self.low.gathered + count;
-        self.range = 0;
-        self.low.keep(register, gathered)?;
         self.range = range << count;
-        Ok(())
+        match self.low.keep(register, gathered) {
+            Ok(()) => Ok(()),
+            Err(memory) => {
+                self.range = 0;
+                Err(memory)
+            }
+        }
     }
 
     /// Writes the last bits of the segment (9.3.4.5), the last one a 1, and hands the sink back.

@@ -13,17 +13,17 @@ keep-requires-clause-room g c =
     room_doubled _ c.self.inside.low.gathered 1 c.self.inside.low.register c.self.inside.range _ 1 (c.self.invariant.1 (omega (arith, running)))
     (omega (arith, part, running, c.from.ensures))
 
-pub invariant_of-self-2 : goal.invariant_of-self-2
-invariant_of-self-2 g c =
+pub invariant_of-self : goal.invariant_of-self
+invariant_of-self g c =
     let part : c.if-bit.upper ≤ c.self.inside.range = elim c.if-bit.branch [ then-bit w ↦ omega (arith, w.upper-is) | else-bit w ↦ omega (arith, w.upper-is) ] in (
       c.self.invariant.0,
-      λ some. c.in_ok-keep.ensures.room c.self.inside.range (omega (arith, c.self.invariant.0))
+      λ some. c.in-Ok.ensures.room c.self.inside.range (omega (arith, c.self.invariant.0))
           (room_doubled _ c.self.inside.low.gathered 1 c.self.inside.low.register c.self.inside.range _ c.self.inside.range (c.self.invariant.1 some)
           (omega (arith, part, c.from.ensures))),
     )
 
-pub returns-clause-bin : goal.returns-clause-bin
-returns-clause-bin g c =
+pub returns-in-Ok-clause-bin : goal.returns-in-Ok-clause-bin
+returns-in-Ok-clause-bin g c =
     let r = c.self.inside.range in
     let upper : c.from.result ≡ from_bool c.args.bit * r =
     elim c.if-bit.branch [
@@ -32,10 +32,10 @@ returns-clause-bin g c =
     ] in
     let range = ap (λ (e : Encoding). e.range) c.self.view_is in
     encoded_bypass c.args.bit c.args.self.now _ c.requires range
-    (omega (arith, c.in_ok-keep.ensures.size, ap (λ (e : Encoding). e.size) c.self.view_is))
+    (omega (arith, c.in-Ok.ensures.size, ap (λ (e : Encoding). e.size) c.self.view_is))
     (omega (
       arith,
-      c.in_ok-keep.ensures.number,
+      c.in-Ok.ensures.number,
       ap (λ (e : Encoding). e.number) c.self.view_is,
       upper,
       ap (λ k. from_bool c.args.bit * k) range,

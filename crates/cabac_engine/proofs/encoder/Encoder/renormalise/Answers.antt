@@ -13,21 +13,21 @@ keep-requires-clause-room g c =
     (c.self.invariant.1 (omega (arith, c.requires.open, range))) c.self.inside.low.few d.few c.requires.some (omega (arith, c.from.ensures, c.requires.within, range)))
     (omega (arith, d.low))
 
-pub invariant_of-self-2 : goal.invariant_of-self-2
-invariant_of-self-2 g c =
+pub invariant_of-self : goal.invariant_of-self
+invariant_of-self g c =
     let range = ap (λ (e : Encoding). e.range) c.self.view_is in
     let n = c.doublings-count.result in
     let d = range_doubled c.args.range n c.doublings-count.ensures c.requires.some (omega (arith, c.requires.within, range, c.self.invariant.0)) in (
       omega (arith, d.whole, d.high),
-      λ _. c.in_ok-keep.ensures.room _ (omega (arith, d.whole, d.high))
+      λ _. c.in-Ok.ensures.room _ (omega (arith, d.whole, d.high))
           (room_less _ _ _ (c.args.range * 2 ^ n) _
           (room_scaled _ c.self.inside.low.gathered n c.self.inside.low.register c.self.inside.range (c.self.inside.low.register + c.from.result) c.args.range
           (c.self.invariant.1 (omega (arith, c.requires.open, range))) c.self.inside.low.few d.few c.requires.some (omega (arith, c.from.ensures, c.requires.within, range)))
           (omega (arith, d.whole))),
     )
 
-pub returns-clause-doubled : goal.returns-clause-doubled
-returns-clause-doubled g c =
+pub returns-in-Ok-clause-doubled : goal.returns-in-Ok-clause-doubled
+returns-in-Ok-clause-doubled g c =
     let range = ap (λ (e : Encoding). e.range) c.self.view_is in
     let n = c.doublings-count.result in
     let e = c.doublings-count.ensures in
@@ -37,15 +37,15 @@ returns-clause-doubled g c =
     (c.self.invariant.1 (omega (arith, c.requires.open, range))) c.self.inside.low.few d.few (omega (arith, c.from.ensures, c.requires.within, range, c.requires.some)) in
     let skipped : c.from.result ≡ c.args.skipped = omega (arith, c.from.ensures) in
     record {
-      size = omega (arith, c.in_ok-keep.ensures.size, ap (λ (x : Encoding). x.size) c.self.view_is, e);
-      number_is = c.in_ok-keep.ensures.number
+      size = omega (arith, c.in-Ok.ensures.size, ap (λ (x : Encoding). x.size) c.self.view_is, e);
+      number_is = c.in-Ok.ensures.number
           ∙ number_of-renormalised c.self.inside.low.pending.bits c.self.inside.low.gathered n register c.from.result _ c.args.self.now.number (sym (ap (λ (x : Encoding). x.number) c.self.view_is)) fits
           ∙ ap (λ k. (c.args.self.now.number + k) * 2 ^ n) skipped ∙ ap (λ k. (c.args.self.now.number + c.args.skipped) * 2 ^ k) e;
       range_is = d.whole ∙ ap (λ k. c.args.range * 2 ^ k) e;
     }
 
-pub returns-clause-open : goal.returns-clause-open
-returns-clause-open g c =
+pub returns-in-Ok-clause-open : goal.returns-in-Ok-clause-open
+returns-in-Ok-clause-open g c =
     let range = ap (λ (e : Encoding). e.range) c.self.view_is in
     let d = range_doubled c.args.range c.doublings-count.result c.doublings-count.ensures c.requires.some (omega (arith, c.requires.within, range, c.self.invariant.0)) in
     omega (arith, d.whole, d.low)
