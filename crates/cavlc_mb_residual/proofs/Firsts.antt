@@ -60,6 +60,27 @@ get_or-sixteen f i d h = ap (λ xs. get_or xs i d) (sym (firsts-16 f 16 refl)) �
 pub AreSmall-none : AreSmall []
 AreSmall-none k = omega arith
 
+-- the counts of four quarters
+pub AreSmall-quarters : (a b c d : List ℕ) → AreSmall a → AreSmall b → AreSmall c → AreSmall d
+    → AreSmall (get_or a 0 0 ∷ get_or a 1 0 ∷ get_or a 2 0 ∷ get_or a 3 0 ∷ get_or b 0 0 ∷ get_or b 1 0 ∷ get_or b 2 0 ∷ get_or b 3 0 ∷ get_or c 0 0 ∷ get_or c 1 0 ∷ get_or c 2 0 ∷ get_or c 3 0 ∷ get_or d 0 0 ∷ get_or d 1 0 ∷ get_or d 2 0 ∷ get_or d 3 0 ∷ [])
+AreSmall-quarters a b c d ha hb hc hd zero = ha 0
+AreSmall-quarters a b c d ha hb hc hd (suc zero) = ha 1
+AreSmall-quarters a b c d ha hb hc hd (suc (suc zero)) = ha 2
+AreSmall-quarters a b c d ha hb hc hd (suc (suc (suc zero))) = ha 3
+AreSmall-quarters a b c d ha hb hc hd (suc (suc (suc (suc zero)))) = hb 0
+AreSmall-quarters a b c d ha hb hc hd (suc (suc (suc (suc (suc zero))))) = hb 1
+AreSmall-quarters a b c d ha hb hc hd (suc (suc (suc (suc (suc (suc zero)))))) = hb 2
+AreSmall-quarters a b c d ha hb hc hd (suc (suc (suc (suc (suc (suc (suc zero))))))) = hb 3
+AreSmall-quarters a b c d ha hb hc hd (suc (suc (suc (suc (suc (suc (suc (suc zero)))))))) = hc 0
+AreSmall-quarters a b c d ha hb hc hd (suc (suc (suc (suc (suc (suc (suc (suc (suc zero))))))))) = hc 1
+AreSmall-quarters a b c d ha hb hc hd (suc (suc (suc (suc (suc (suc (suc (suc (suc (suc zero)))))))))) = hc 2
+AreSmall-quarters a b c d ha hb hc hd (suc (suc (suc (suc (suc (suc (suc (suc (suc (suc (suc zero))))))))))) = hc 3
+AreSmall-quarters a b c d ha hb hc hd (suc (suc (suc (suc (suc (suc (suc (suc (suc (suc (suc (suc zero)))))))))))) = hd 0
+AreSmall-quarters a b c d ha hb hc hd (suc (suc (suc (suc (suc (suc (suc (suc (suc (suc (suc (suc (suc zero))))))))))))) = hd 1
+AreSmall-quarters a b c d ha hb hc hd (suc (suc (suc (suc (suc (suc (suc (suc (suc (suc (suc (suc (suc (suc zero)))))))))))))) = hd 2
+AreSmall-quarters a b c d ha hb hc hd (suc (suc (suc (suc (suc (suc (suc (suc (suc (suc (suc (suc (suc (suc (suc zero))))))))))))))) = hd 3
+AreSmall-quarters a b c d ha hb hc hd (suc (suc (suc (suc (suc (suc (suc (suc (suc (suc (suc (suc (suc (suc (suc (suc k)))))))))))))))) = AreSmall-none k
+
 pub AreSmall-push : (xs ys : List ℕ) (x : ℕ) → ys ≡ xs ++ x ∷ [] → AreSmall xs → x ≤ 16 → AreSmall ys
 AreSmall-push xs ys x e small most = rw e (at xs small)
   where

@@ -10,3 +10,4 @@ pub mod Searching
 pub mod ResidualUnique
 pub mod ResidualValid
 pub mod ResidualSearching
+mod Zeros

@@ -1,9 +1,11 @@
-ghost use Rattle.std.specs.Prelude.{◌≡◌, ◌<◌, ◌≤◌, [], length, slice_index_or, IfSome};
+ghost use Rattle.std.specs.Prelude.{◌≡◌, ◌+◌, ◌*◌, ◌<◌, ◌≤◌, ℕ, true, false, [], length, slice_index_or, IfSome};
+ghost use Rattle.h264_types.specs.Macroblock.{quarter_of};
 ghost use Rattle.cavlc_residual.specs.Block.{total_coeff};
 ghost use Rattle.cavlc_mb_residual.specs.LumaBlocks as lists;
 ghost use Rattle.cavlc_mb_residual.specs.Counts as count;
 
 use crate::transform_8x8::every_fourth;
+use circular_buffer::HeapCircularBuffer;
 use h264_types::{Mb, OfMb};
 
 /// How many levels other than 0 the lists of a macroblock have that are sent of its blocks, as the macroblocks to its
@@ -64,11 +66,18 @@ impl OfMb for Counts {
                 cr: [16; 4],
             };
         }
+        let [a, b, c, d] = &mb.luma;
+        let [cb, cr] = &mb.chroma_ac;
+        let some = [has_levels(a), has_levels(b), has_levels(c), has_levels(d)];
         Counts {
-            luma: luma_counts(mb),
-            cb: chroma_counts(&mb.chroma_ac[0]),
-            cr: chroma_counts(&mb.chroma_ac[1]),
+            luma: luma_counts(mb, some),
+            cb: chroma_counts(cb, have_levels(cb)),
+            cr: chroma_counts(cr, have_levels(cr)),
         }
+    }
+
+    fn keep(mb: &Mb, kept: &mut HeapCircularBuffer<Counts>) {
+        kept.push_back(Counts::of(mb));
     }
 }
 
@@ -84,23 +93,65 @@ fn luma_count(mb: &Mb, n: u8) -> u8
     count_levels(mb.block(n))
 }
 
+/// Whether a level isn't 0.
+fn has_levels(levels: &[i32]) -> bool
+    ensures { result ≡ false → total_coeff levels.now ≡ 0 }
+{
+    let mut some = false;
+    for level in levels {
+        some |= *level != 0;
+    }
+    some
+}
+
+/// TotalCoeff of the four luma blocks of quarter q, where `some` is false only if it has no levels.
+fn quarter_counts(mb: &Mb, q: u8, some: bool) -> [u8; 4]
+    requires q { q < 4 }
+    requires none { some ≡ false → total_coeff (quarter_of mb.now q) ≡ 0 }
+    ensures value { result ≡ lists.four (λ k. total_coeff (lists.sent_block mb.now (4 * q + k))) }
+    ensures small { count.AreSmall result }
+{
+    if !some {
+        return [0; 4];
+    }
+    [
+        luma_count(mb, 4 * q),
+        luma_count(mb, 4 * q + 1),
+        luma_count(mb, 4 * q + 2),
+        luma_count(mb, 4 * q + 3),
+    ]
+}
+
 /// TotalCoeff of each luma block.
-fn luma_counts(mb: &Mb) -> [u8; 16]
+fn luma_counts(mb: &Mb, some: [bool; 4]) -> [u8; 16]
+    requires none { (q : ℕ) → slice_index_or some q true ≡ false → total_coeff (quarter_of mb.now q) ≡ 0 }
     ensures value { result ≡ lists.sixteen (λ n. total_coeff (lists.sent_block mb.now n)) }
     ensures small { count.AreSmall result }
 {
-    let mut counts = [0; 16];
-    for n in 0..16u8 {
-        counts[usize::from(n)] = luma_count(mb, n);
-    }
-    counts
+    let [a, b, c, d] = quarter_counts(mb, 0, some[0]);
+    let [e, f, g, h] = quarter_counts(mb, 1, some[1]);
+    let [i, j, k, l] = quarter_counts(mb, 2, some[2]);
+    let [m, n, o, p] = quarter_counts(mb, 3, some[3]);
+    [a, b, c, d, e, f, g, h, i, j, k, l, m, n, o, p]
 }
 
-/// TotalCoeff of each AC block of a chroma component.
-fn chroma_counts(blocks: &[[i32; 15]; 4]) -> [u8; 4]
+/// Whether a block has a level that isn't 0.
+fn have_levels(blocks: &[[i32; 15]; 4]) -> bool
+    ensures { result ≡ false → (n : ℕ) → total_coeff (slice_index_or blocks.now n []) ≡ 0 }
+{
+    let [a, b, c, d] = blocks;
+    has_levels(a) | has_levels(b) | has_levels(c) | has_levels(d)
+}
+
+/// TotalCoeff of each AC block of a chroma component, where `some` is false only if they have no levels.
+fn chroma_counts(blocks: &[[i32; 15]; 4], some: bool) -> [u8; 4]
+    requires none { some ≡ false → (n : ℕ) → total_coeff (slice_index_or blocks.now n []) ≡ 0 }
     ensures value { result ≡ lists.four (λ n. total_coeff (slice_index_or blocks.now n [])) }
     ensures small { count.AreSmall result }
 {
+    if !some {
+        return [0; 4];
+    }
     [
         count_levels(&blocks[0]),
         count_levels(&blocks[1]),

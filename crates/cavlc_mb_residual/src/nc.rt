@@ -6,6 +6,7 @@ use crate::counts::Sides;
 use mb_neighbours::At;
 
 /// The column of the upper left sample of a place in its macroblock.
+#[inline(always)]
 fn column_of(place: At) -> u8
     requires { IsPlace place }
     ensures value { result ≡ x_of place }
@@ -20,6 +21,7 @@ fn column_of(place: At) -> u8
 }
 
 /// The row of the upper left sample of a place in its macroblock.
+#[inline(always)]
 fn row_of(place: At) -> u8
     requires { IsPlace place }
     ensures value { result ≡ y_of place }
@@ -34,6 +36,7 @@ fn row_of(place: At) -> u8
 }
 
 /// The block of a place's kind that has the sample in column x, row y.
+#[inline(always)]
 fn block_at(place: At, x: u8, y: u8) -> u8
     requires x { x < 16 }
     requires y { y < 16 }
@@ -47,6 +50,7 @@ fn block_at(place: At, x: u8, y: u8) -> u8
     }
 }
 
+#[inline(always)]
 fn count_of_block(counts: &[u8], block: u8) -> u8
     requires { count.AreSmall counts.now }
     ensures value { result ≡ slice_index_or counts.now block 0 }
@@ -56,6 +60,7 @@ fn count_of_block(counts: &[u8], block: u8) -> u8
 }
 
 /// What the block to the left of a place counts, where it is available.
+#[inline(always)]
 fn left_count(sides: &Sides, counts: &[u8], place: At) -> Option<u8>
     requires place { IsPlace place }
     requires sides { count.AreSides sides.now }
@@ -73,6 +78,7 @@ fn left_count(sides: &Sides, counts: &[u8], place: At) -> Option<u8>
 }
 
 /// What the block above a place counts, where it is available.
+#[inline(always)]
 fn above_count(sides: &Sides, counts: &[u8], place: At) -> Option<u8>
     requires place { IsPlace place }
     requires sides { count.AreSides sides.now }
@@ -89,6 +95,7 @@ fn above_count(sides: &Sides, counts: &[u8], place: At) -> Option<u8>
     Some(count_of_block(&row, x / 4))
 }
 
+#[inline(always)]
 fn mean(left: Option<u8>, above: Option<u8>) -> i8
     requires left { IfSome left (λ c. c ≤ 16) }
     requires above { IfSome above (λ c. c ≤ 16) }
@@ -105,6 +112,7 @@ fn mean(left: Option<u8>, above: Option<u8>) -> i8
 
 /// nC of the block at a place, where `counts` tells what the blocks before it in its macroblock count.
 #[tactic(auto, unfolding(crate::specs::Counts::nC))]
+#[inline(always)]
 pub fn nc(sides: &Sides, counts: &[u8], place: At) -> i8
     requires place { IsPlace place }
     requires sides { count.AreSides sides.now }

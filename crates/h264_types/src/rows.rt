@@ -6,10 +6,12 @@ use crate::slice_shape::SliceShape;
 use circular_buffer::HeapCircularBuffer;
 use std::alloc::{AllocError as Memory, Global};
 use std::marker::Model;
+use std::slice;
 
 /// What is kept of a macroblock.
 pub trait OfMb: Copy {
-    ghost use Rattle.std.specs.Prelude.{◌≡◌};
+    ghost use Rattle.std.specs.Prelude.{◌≡◌, [], ◌∷◌, ◌++◌};
+    ghost use Rattle.circular_buffer.specs.Buffer.{buffer, keep_last};
 
     ghost of: { Mb → Self };
 
@@ -20,6 +22,11 @@ pub trait OfMb: Copy {
     fn of(mb: &Mb) -> Self
         ensures value { result ≡ of mb.now }
         ensures is { Is result };
+
+    /// Appends what is kept of this macroblock. Where there is no room for it, the first one goes.
+    fn keep(mb: &Mb, kept: &mut HeapCircularBuffer<Self>)
+        ensures kept { kept.new ≡ buffer (keep_last kept.old.capacity (kept.old.items ++ of mb.now ∷ [])) kept.old.capacity }
+        ensures is { Is (of mb.now) };
 }
 
 /// The macroblock itself.
@@ -30,6 +37,10 @@ impl OfMb for Mb {
 
     fn of(mb: &Mb) -> Mb {
         *mb
+    }
+
+    fn keep(mb: &Mb, kept: &mut HeapCircularBuffer<Mb>) {
+        kept.extend_from_slice(slice::from_ref(mb));
     }
 }
 
@@ -92,7 +103,7 @@ impl<K: OfMb> Rows<K> {
         ensures rows { (shape : SliceShape) (mbs : List Mb) → AreRows K.of shape self.old mbs → AreRows K.of shape self.new (mbs ++ mb.now ∷ []) }
         ensures value { self.new ≡ record self.old { count = self.old.count + 1; last = keep_last (two_rows self.old.width self.old.mbaff) (self.old.last ++ K.of mb.now ∷ []) } }
     {
-        self.kept.push_back(K::of(mb));
+        K::keep(mb, &mut self.kept);
         self.count += 1;
         if !self.mbaff || self.count % 2 == 0 {
             self.column = column_behind(self.column, self.width);

@@ -26,5 +26,5 @@ invariant_of-self-then-not-self g c =
         kept = grind (arith, length_push, length-keep_last);
         next = column_push c.self.inside.first c.self.inside.count c.self.inside.width c.self.inside.column c.column_behind-self-inside.result c.self.inside.mbaff c.self.invariant.0.next ends c.column_behind-self-inside.ensures;
       },
-      all_kept g.K.OfMb.Is c.self.inside.kept.capacity c.self.inside.kept.items c.push_back.new.self.items c.of.result (grind arith) c.of.ensures.is c.self.invariant.1,
+      all_kept g.K.OfMb.Is c.self.inside.kept.capacity c.self.inside.kept.items c.keep.new.kept.items (g.K.OfMb.of c.args.mb.now) (grind arith) c.keep.ensures.is c.self.invariant.1,
     )
