@@ -46,6 +46,7 @@ pub fn write_up_to_two<S: BinSink>(
 }
 
 /// Reads ones, at most `most`, and a zero if there are fewer (9.3.2.2). The last context is that of all further bins.
+#[inline(always)]
 pub fn read_unary<S: BinSource>(s: &mut S, contexts: &[u16; 5], most: u8) -> Option<u8>
     requires going { S.over s.old ≡ false }
     requires contexts { AllByRecursion (λ ctx. ctx < 460) contexts.now }
@@ -62,6 +63,7 @@ pub fn read_unary<S: BinSource>(s: &mut S, contexts: &[u16; 5], most: u8) -> Opt
 }
 
 /// Writes that many ones, and a zero if there are fewer than `most`.
+#[inline(always)]
 pub fn write_unary<S: BinSink>(
     s: &mut S,
     contexts: &[u16; 5],
@@ -123,6 +125,7 @@ fn power_of_two(k: u8) -> u32
 }
 
 /// Reads an Exp-Golomb suffix of this order with fewer than `most` ones (9.3.2.3). None is also answered at more ones.
+#[cold]
 pub fn read_suffix<S: BinSource>(s: &mut S, order: u8, most: u8) -> Option<u32>
     requires going { S.over s.old ≡ false }
     requires most { order + most ≤ 16 }
@@ -143,6 +146,7 @@ pub fn read_suffix<S: BinSource>(s: &mut S, order: u8, most: u8) -> Option<u32>
 }
 
 /// Writes an Exp-Golomb suffix of this order.
+#[cold]
 pub fn write_suffix<S: BinSink>(s: &mut S, order: u8, most: u8, value: u32) -> Result<(), Memory>
     requires going { S.over s.old ≡ false }
     requires most { order + most ≤ 16 }

@@ -8,6 +8,7 @@ use cabac_engine::{BinSink, BinSource};
 use std::alloc::AllocError as Memory;
 
 /// Reads ones, at most `prefix`, and behind all of them a suffix of this order with fewer than `most` ones (9.3.2.3).
+#[inline(always)]
 pub fn read_ueg<S: BinSource>(
     s: &mut S,
     contexts: &[u16; 5],
@@ -28,6 +29,7 @@ pub fn read_ueg<S: BinSource>(
 }
 
 /// Reads what follows so many ones.
+#[inline(always)]
 fn read_ueg_behind<S: BinSource>(
     s: &mut S,
     prefix: u8,
@@ -50,6 +52,7 @@ fn read_ueg_behind<S: BinSource>(
 }
 
 /// Writes a number as ones, at most `prefix`, and behind all of them a suffix of this order.
+#[inline(always)]
 pub fn write_ueg<S: BinSink>(
     s: &mut S,
     contexts: &[u16; 5],
@@ -76,6 +79,7 @@ pub fn write_ueg<S: BinSink>(
 
 /// Reads the sign of a number of this magnitude, which 0 doesn't have. Magnitudes above the greatest are of no value.
 #[tactic(auto, unfolding(crate::specs::Codes::signed))]
+#[inline(always)]
 pub fn read_signed<S: BinSource>(s: &mut S, magnitude: u32, greatest: u32) -> Option<i32>
     requires going { S.over s.old ≡ false }
     requires greatest { greatest ≤ 65535 }
@@ -94,6 +98,7 @@ pub fn read_signed<S: BinSource>(s: &mut S, magnitude: u32, greatest: u32) -> Op
 
 /// Writes the sign of a number of this magnitude, which 0 doesn't have.
 #[tactic(auto, unfolding(crate::specs::Codes::signed))]
+#[inline(always)]
 pub fn write_signed<S: BinSink>(
     s: &mut S,
     magnitude: u32,

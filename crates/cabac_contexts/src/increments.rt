@@ -165,6 +165,7 @@ pub fn ctx_inc_chroma(
 /// The increment of coded_block_flag, 0 to 3 (9.3.3.1.1.9), for `cat` (ctxBlockCat) 0 to 4: luma DC, luma AC, luma, chroma DC,
 /// chroma AC. `comp` is 1 for Cr and else 0. `block` is the number of a 4x4 block of luma or chroma, and 0 for DC levels.
 /// `mb` has its pattern and the levels of the blocks before.
+#[inline(always)]
 pub fn ctx_inc_block(
     shape: &SliceShape,
     done: &Rows<Mb>,
@@ -186,6 +187,7 @@ pub fn ctx_inc_block(
 }
 
 /// Where a block stands, and what its neighbours are asked.
+#[inline(always)]
 fn block_place(cat: u8, comp: u8, block: u8) -> (At, Term)
     requires { inc.IsBlock cat comp block }
     ensures place { result.0 ≡ inc.place_of cat block }
@@ -203,6 +205,7 @@ fn block_place(cat: u8, comp: u8, block: u8) -> (At, Term)
 }
 
 /// condTermFlagA + condTermFlagB
+#[inline(always)]
 fn sum(flags: (bool, bool)) -> u8
     ensures { result ≡ inc.sum flags.0 flags.1 }
 {
@@ -210,6 +213,7 @@ fn sum(flags: (bool, bool)) -> u8
 }
 
 /// condTermFlagA + 2 * condTermFlagB
+#[inline(always)]
 fn weighted(flags: (bool, bool)) -> u8
     ensures { result ≡ inc.weighted flags.0 flags.1 }
 {

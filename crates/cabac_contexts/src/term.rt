@@ -45,6 +45,7 @@ pub enum Term {
 
 /// condTermFlagA and condTermFlagB of a place of the current macroblock; `missing` is that of a neighbour that isn't
 /// available.
+#[inline(always)]
 pub(crate) fn flags(
     shape: &SliceShape,
     done: &Rows<Mb>,
@@ -71,6 +72,7 @@ pub(crate) fn flags(
 }
 
 /// condTermFlagN of a neighbour, where it was found.
+#[inline(always)]
 fn flag(done: &Rows<Mb>, at: u32, mb: &Mb, found: Option<Spot>, term: Term, missing: bool) -> bool
     requires block { IfSome found (λ spot. spot.block < blocks_of term) }
     requires component { HasComponent term }
@@ -90,6 +92,7 @@ fn flag(done: &Rows<Mb>, at: u32, mb: &Mb, found: Option<Spot>, term: Term, miss
 }
 
 /// What a macroblock, or a block of it, says.
+#[inline(always)]
 fn answer(mb: &Mb, block: u8, term: Term) -> bool
     requires block { block < blocks_of term }
     requires component { HasComponent term }
@@ -123,6 +126,7 @@ fn answer(mb: &Mb, block: u8, term: Term) -> bool
 }
 
 /// A quarter sends its reference index and vectors of a list.
+#[inline(always)]
 pub(crate) fn uses(mb: &Mb, list: u8, quarter: u8) -> bool
     requires { quarter < 4 }
     ensures { result ≡ list_is_used mb.now list quarter }
@@ -132,6 +136,7 @@ pub(crate) fn uses(mb: &Mb, list: u8, quarter: u8) -> bool
 }
 
 /// The reference index of a quarter counts as greater than 0 beside a macroblock whose pair flag is `field`.
+#[inline(always)]
 fn counts(mb: &Mb, list: u8, quarter: u8, field: bool) -> bool
     requires list { list < 2 }
     requires quarter { quarter < 4 }
@@ -142,6 +147,7 @@ fn counts(mb: &Mb, list: u8, quarter: u8, field: bool) -> bool
 }
 
 /// The pattern has a bit for a luma quarter.
+#[inline(always)]
 fn has_luma(mb: &Mb, quarter: u8) -> bool
     requires { quarter < 4 }
     ensures { result ≡ has_luma mb.now quarter }
@@ -150,8 +156,13 @@ fn has_luma(mb: &Mb, quarter: u8) -> bool
 }
 
 /// A level isn't 0.
+#[inline(always)]
 fn has_level(levels: &[i32]) -> bool
     ensures { result ≡ has_level levels.now }
 {
-    levels.iter().any(|level| *level != 0)
+    let mut any = false;
+    for level in levels {
+        any |= *level != 0;
+    }
+    any
 }

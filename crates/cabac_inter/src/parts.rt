@@ -7,6 +7,7 @@ ghost use Rattle.cavlc_inter.specs.Parts.{first_of};
 use h264_types::{Mb, MbKind};
 
 /// The first quarter of the partition that covers quarter q.
+#[inline(always)]
 pub(crate) fn first_quarter(kind: MbKind, q: u8) -> u8
     requires { q < 4 }
     ensures value { result ≡ first_of (partition_of kind) q }
@@ -22,6 +23,7 @@ pub(crate) fn first_quarter(kind: MbKind, q: u8) -> u8
 }
 
 /// The first block of the sub-macroblock partition that has block k of a quarter whose sub_mb_type is `sub`.
+#[inline(always)]
 fn first_in_quarter(kind: MbKind, sub: u8, k: u8) -> u8
     requires { k < 4 }
     ensures value { result ≡ first_of (sub_part kind sub) k }
@@ -37,6 +39,7 @@ fn first_in_quarter(kind: MbKind, sub: u8, k: u8) -> u8
 }
 
 /// The first 4x4 block of the part that has block n.
+#[inline(always)]
 pub(crate) fn first_block(mb: &Mb, n: u8) -> u8
     requires { n < 16 }
     ensures value { result ≡ first_of (part_of mb.now.kind mb.now.subs) n }
@@ -51,6 +54,7 @@ pub(crate) fn first_block(mb: &Mb, n: u8) -> u8
 }
 
 /// Whether a quarter is predicted from list 0 or 1 by what is sent.
+#[inline(always)]
 pub(crate) fn uses(mb: &Mb, list: u8, q: u8) -> bool
     requires { q < 4 }
     ensures { result ≡ list_is_used mb.now list q }

@@ -14,6 +14,7 @@ use std::alloc::AllocError as Memory;
 const NO_LEVELS: Counts = Counts { ones: 0, above: 0 };
 
 /// Makes all levels 0.
+#[inline(always)]
 fn clear(levels: &mut [i32])
     ensures { levels.new ≡ replicate (length levels.old) (pos 0) }
 {
@@ -21,6 +22,7 @@ fn clear(levels: &mut [i32])
 }
 
 /// Reads the levels of the places with these marks, from the last one down.
+#[inline(always)]
 fn read_marked<S: BinSource>(s: &mut S, cat: u8, marks: &[bool], levels: &mut [i32]) -> Option<()>
     requires going { S.over s.old ≡ false }
     requires cat { cat < 6 }
@@ -41,6 +43,7 @@ fn read_marked<S: BinSource>(s: &mut S, cat: u8, marks: &[bool], levels: &mut [i
 }
 
 /// Reads the levels of a block in which one is other than 0.
+#[inline(always)]
 fn read_coded<S: BinSource>(s: &mut S, cat: u8, field: bool, levels: &mut [i32]) -> Option<()>
     requires going { S.over s.old ≡ false }
     requires shape { IsShape cat (length levels.old) }
@@ -55,6 +58,7 @@ fn read_coded<S: BinSource>(s: &mut S, cat: u8, field: bool, levels: &mut [i32])
 /// Reads a residual block of as many levels as the list that is lent has, into that list. `cat` is ctxBlockCat, and
 /// `flag_inc` the increment of coded_block_flag, which category 5 doesn't have. None where the source ran out, or a level is
 /// above 65535 in magnitude; what the list then holds isn't said.
+#[inline(always)]
 pub fn read_levels<S: BinSource>(
     s: &mut S,
     cat: u8,
@@ -111,6 +115,7 @@ fn levels_of(list: &[i32]) -> Levels
 }
 
 /// The last place whose level is other than 0.
+#[inline(always)]
 fn last_significant(levels: &[i32]) -> Option<usize>
     requires { length levels.now ≤ 64 }
     ensures place { IfSome result (λ last. last < length levels.now) }
@@ -129,6 +134,7 @@ fn last_significant(levels: &[i32]) -> Option<usize>
 }
 
 /// Writes the levels other than 0 of the first places, from the last one down.
+#[inline(always)]
 fn write_marked<S: BinSink>(s: &mut S, cat: u8, levels: &[i32], count: usize) -> Result<(), Memory>
     requires going { S.over s.old ≡ false }
     requires cat { cat < 6 }
@@ -151,6 +157,7 @@ fn write_marked<S: BinSink>(s: &mut S, cat: u8, levels: &[i32], count: usize) ->
 }
 
 /// Writes the levels of a block, of which the last one other than 0 stands at this place.
+#[inline(always)]
 fn write_coded<S: BinSink>(
     s: &mut S,
     cat: u8,
@@ -173,6 +180,7 @@ fn write_coded<S: BinSink>(
 }
 
 /// Writes a residual block of these levels, as `read_levels` reads it.
+#[inline(always)]
 pub fn write_levels<S: BinSink>(
     s: &mut S,
     cat: u8,

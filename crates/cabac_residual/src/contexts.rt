@@ -10,6 +10,7 @@ static MAP_OFFSETS: [u16; 5] = [0, 15, 29, 44, 47];
 pub static LEVEL_BASES: [u16; 6] = [227, 237, 247, 257, 266, 426];
 
 /// The context of coded_block_flag.
+#[inline(always)]
 pub fn flag_context(cat: u8, inc: u8) -> u16
     requires cat { cat < 5 }
     requires inc { inc ≤ 3 }
@@ -20,6 +21,7 @@ pub fn flag_context(cat: u8, inc: u8) -> u16
 }
 
 /// The context of a flag of the significance map at a place of a block of ctxBlockCat 0 to 4.
+#[inline(always)]
 fn map_context(base: u16, cat: u8, place: u8) -> u16
     requires base { base ≤ 338 }
     requires cat { cat < 5 }
@@ -32,6 +34,7 @@ fn map_context(base: u16, cat: u8, place: u8) -> u16
 }
 
 /// The context of significant_coeff_flag.
+#[inline(always)]
 pub fn significance_context(cat: u8, field: bool, place: u8) -> u16
     requires cat { cat < 6 }
     requires place { place < 63 }
@@ -47,6 +50,7 @@ pub fn significance_context(cat: u8, field: bool, place: u8) -> u16
 }
 
 /// The context of last_significant_coeff_flag.
+#[inline(always)]
 pub fn last_context(cat: u8, field: bool, place: u8) -> u16
     requires cat { cat < 6 }
     requires place { place < 63 }

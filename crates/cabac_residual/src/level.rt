@@ -17,6 +17,7 @@ pub struct Counts {
 }
 
 /// The counts after a level.
+#[inline(always)]
 pub fn after(counts: Counts, level: i32) -> Counts
     requires { counts.ones + counts.above < 255 }
     ensures { result ≡ after counts level }
@@ -35,6 +36,7 @@ pub fn after(counts: Counts, level: i32) -> Counts
 }
 
 /// The contexts of the bins of coeff_abs_level_minus1.
+#[inline(always)]
 fn level_contexts(cat: u8, counts: Counts) -> [u16; 5]
     requires cat { cat < 6 }
     requires counts { counts.ones + counts.above < 255 }
@@ -53,6 +55,7 @@ fn level_contexts(cat: u8, counts: Counts) -> [u16; 5]
 }
 
 /// Reads a level other than 0.
+#[inline(always)]
 fn read_level<S: BinSource>(s: &mut S, cat: u8, counts: Counts) -> Option<i32>
     requires going { S.over s.old ≡ false }
     requires cat { cat < 6 }
@@ -65,6 +68,7 @@ fn read_level<S: BinSource>(s: &mut S, cat: u8, counts: Counts) -> Option<i32>
 }
 
 /// Writes a level other than 0.
+#[inline(always)]
 fn write_level<S: BinSink>(s: &mut S, cat: u8, counts: Counts, value: i32) -> Result<(), Memory>
     requires going { S.over s.old ≡ false }
     requires cat { cat < 6 }
@@ -82,6 +86,7 @@ fn write_level<S: BinSink>(s: &mut S, cat: u8, counts: Counts, value: i32) -> Re
 
 /// Reads the level at a place, which is 0 where the place isn't significant.
 #[tactic(auto, unfolding(crate::specs::Block::level_at))]
+#[inline(always)]
 pub fn read_level_at<S: BinSource>(
     s: &mut S,
     cat: u8,
@@ -102,6 +107,7 @@ pub fn read_level_at<S: BinSource>(
 }
 
 /// Writes the level at a place, which has no bins where it is 0.
+#[inline(always)]
 pub fn write_level_at<S: BinSink>(
     s: &mut S,
     cat: u8,

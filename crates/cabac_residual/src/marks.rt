@@ -14,6 +14,7 @@ pub type Marks = ArrayVec<bool, 64>;
 
 /// Reads whether a place is significant, and whether it is the last one.
 #[tactic(auto, unfolding(crate::specs::Block::mark))]
+#[inline(always)]
 fn read_mark<S: BinSource>(s: &mut S, cat: u8, field: bool, place: u8) -> Option<(bool, bool)>
     requires going { S.over s.old ≡ false }
     requires cat { cat < 6 }
@@ -31,6 +32,7 @@ fn read_mark<S: BinSource>(s: &mut S, cat: u8, field: bool, place: u8) -> Option
 
 /// Writes whether a place is significant, and where it is, whether it is the last one.
 #[tactic(auto, unfolding(crate::specs::Block::mark))]
+#[inline(always)]
 fn write_mark<S: BinSink>(
     s: &mut S,
     cat: u8,
@@ -56,6 +58,7 @@ fn write_mark<S: BinSink>(
 }
 
 /// Reads the significance map of a block of `max` levels, in which one is other than 0.
+#[inline(always)]
 pub fn read_marks<S: BinSource>(s: &mut S, cat: u8, field: bool, max: u8) -> Option<Marks>
     requires going { S.over s.old ≡ false }
     requires shape { IsShape cat max }
@@ -76,6 +79,7 @@ pub fn read_marks<S: BinSource>(s: &mut S, cat: u8, field: bool, max: u8) -> Opt
 }
 
 /// Whether a level is other than 0.
+#[inline(always)]
 fn is_nonzero(level: i32) -> bool
     ensures { result ≡ is_nonzero level }
 {
@@ -83,6 +87,7 @@ fn is_nonzero(level: i32) -> bool
 }
 
 /// Writes the significance map of a block, of which the last level other than 0 stands at this place.
+#[inline(always)]
 pub fn write_marks<S: BinSink>(
     s: &mut S,
     cat: u8,

@@ -42,6 +42,7 @@ pub fn write_first<B: BitSink>(
 }
 
 /// Writes end_of_slice_flag, which is 0, behind so many macroblocks, if there are some.
+#[inline(always)]
 pub fn write_flag<B: BitSink>(coder: &mut OutCoder<B>, count: u32) -> Result<(), Memory>
     requires { nat_lt coder.old.encoder.range 256 ≡ false }
     ensures going { OnOk result (nat_lt coder.new.encoder.range 256 ≡ false) }
@@ -55,6 +56,7 @@ pub fn write_flag<B: BitSink>(coder: &mut OutCoder<B>, count: u32) -> Result<(),
 }
 
 /// Goes on behind the bins of a macroblock: where it is I_PCM its samples are written, and the next segment starts.
+#[inline(always)]
 pub fn write_behind<B: BitSink>(
     alloc: Global,
     coder: OutCoder<B>,

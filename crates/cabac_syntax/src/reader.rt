@@ -64,6 +64,7 @@ impl<B: BitSource> CabacReader<B> {
     }
 
     /// Reads the next macroblock, whose bins stand ahead.
+    #[inline(always)]
     fn read_next(&mut self, coder: InCoder<B>, mb: &mut Mb) -> Result<bool, SliceFault>
         requires { nat_lt coder.decoder.range 256 ≡ false }
         ensures { (init : InitTable) (shape : SliceShape) (pos : ℕ) (all : List Bool) (done : List Mb)

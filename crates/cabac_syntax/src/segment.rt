@@ -57,6 +57,7 @@ fn read_pcm<B: BitSource>(bits: &mut B, samples: &mut [u8; 384]) -> Option<()>
 
 /// Goes on behind the bins of a macroblock: where it is I_PCM its samples are read, and the next segment starts. None where
 /// these don't stand there.
+#[inline(always)]
 pub fn read_behind<B: BitSource>(coder: InCoder<B>, mb: &mut Mb) -> Option<InCoder<B>>
     requires { nat_lt coder.decoder.range 256 ≡ is_i_pcm mb.old.kind }
     ensures going { IfSome result (λ next. nat_lt next.decoder.range 256 ≡ false) }

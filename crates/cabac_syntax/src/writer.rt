@@ -37,6 +37,7 @@ pub struct CabacWriter<B: BitSink> {
 }
 
 /// The coder of what is to come: the first segment is started where none was.
+#[inline(always)]
 fn begun<B: BitSink>(alloc: Global, phase: Phase<B>) -> Result<OutCoder<B>, Memory>
     requires { IsOpen phase }
     ensures going { IfOk result (λ coder. nat_lt coder.encoder.range 256 ≡ false) }
@@ -81,6 +82,7 @@ impl<B: BitSink> CabacWriter<B> {
     }
 
     /// Writes the next macroblock, with end_of_slice_flag before it where it isn't the first.
+    #[inline(always)]
     fn put_next(&mut self, mb: &Mb) -> Result<(), Memory>
         requires { MayPut Cabac (λ init writer. WritesFor B.bits init writer.shape writer.rows writer.phase) self.old mb.now }
         ensures { (init : InitTable) (shape : SliceShape) (before : List Bool) (done : List Mb)

@@ -15,6 +15,7 @@ use h264_types::{Mb, Rows, SliceShape};
 ///
 /// `at` is a number in the slice, the first macroblock being 0: that of the next one of `done` or of the last one, in MBAFF
 /// of the pair of one of them. `field` is the pair flag that counts for `at`, false outside MBAFF.
+#[inline(always)]
 pub fn left(shape: &SliceShape, done: &Rows<Mb>, at: u32, field: bool, place: At) -> Option<Spot>
     requires place { IsPlace place }
     ensures value { (mbs : List Mb) → StandsAt (λ mb. mb) shape.now done.now mbs at → result ≡ left_of shape.now mbs at field place }
@@ -34,6 +35,7 @@ pub fn left(shape: &SliceShape, done: &Rows<Mb>, at: u32, field: bool, place: At
 /// The macroblock and block above a place of macroblock `at`, neighbour B of 6.4.11. None where the slice has none
 /// there. The arguments are those of [`left`]. In MBAFF a frame macroblock at the bottom of its pair answers the top,
 /// which `done` need not have.
+#[inline(always)]
 pub fn above(shape: &SliceShape, done: &Rows<Mb>, at: u32, field: bool, place: At) -> Option<Spot>
     requires picture { IsInPicture shape.now at }
     requires place { IsPlace place }
