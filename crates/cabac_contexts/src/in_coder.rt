@@ -1,4 +1,5 @@
-ghost use Rattle.std.specs.Prelude.{◌≡◌, ◌<◌, nat_lt};
+ghost use Rattle.std.specs.Prelude.{◌≡◌, ◌<◌, nat_lt, false};
+ghost use Rattle.cabac_engine.specs.Bins.{in_context, is_last};
 ghost use Rattle.cabac_contexts.specs.Coders.{InCoding, GivesBin};
 
 use crate::contexts::Contexts;
@@ -27,6 +28,33 @@ impl<B: BitSource> InCoder<B> {
         InCoder { contexts, decoder }
     }
 
+    /// The next bin of a context.
+    #[inline(always)]
+    fn next_bin(&mut self, ctx: u16) -> Option<bool>
+        requires context { ctx < 460 }
+        requires going { nat_lt self.old.decoder.range 256 ≡ false }
+        ensures step { GivesBin self.old (in_context ctx) result self.new }
+        ensures over { nat_lt self.new.decoder.range 256 ≡ is_last (in_context ctx) result }
+    {
+        let mut cell = self.contexts.cell(ctx);
+        let bit = self.decoder.bin(&mut cell)?;
+        self.contexts.set_cell(ctx, cell);
+        Some(bit)
+    }
+
+    /// The same, with more bits looked up first.
+    #[cold]
+    #[inline(never)]
+    fn bin_behind(&mut self, ctx: u16) -> Option<bool>
+        requires context { ctx < 460 }
+        requires going { nat_lt self.old.decoder.range 256 ≡ false }
+        ensures step { GivesBin self.old (in_context ctx) result self.new }
+        ensures over { nat_lt self.new.decoder.range 256 ≡ is_last (in_context ctx) result }
+    {
+        self.decoder.look_ahead();
+        self.next_bin(ctx)
+    }
+
     /// Hands the contexts back, and the source at the bits that are left.
     pub fn into_parts(self) -> (Contexts, B)
         ensures cells { result.0 ≡ self.cells }
@@ -45,10 +73,10 @@ impl<B: BitSource> BinSource for InCoder<B> {
 
     #[inline(never)]
     fn bin(&mut self, ctx: u16) -> Option<bool> {
-        let mut cell = self.contexts.cell(ctx);
-        let bit = self.decoder.bin(&mut cell)?;
-        self.contexts.set_cell(ctx, cell);
-        Some(bit)
+        if self.decoder.is_short() {
+            return self.bin_behind(ctx);
+        }
+        self.next_bin(ctx)
     }
 
     #[inline(always)]

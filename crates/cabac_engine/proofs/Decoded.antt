@@ -1,5 +1,5 @@
 -- What a further bin makes of a decoder
-use Rattle.std.proofs.Common.{◌≡◌, ℕ, ◌+◌, ◌-◌, ◌*◌, ◌/◌, ◌%◌, ◌<◌, ◌≤◌, Bool, true, false, List, [], ◌∷◌, length, refl, sym, ap, subst, ◌∙◌, arith, cond, length-drop, bit_and}
+use Rattle.std.proofs.Common.{◌≡◌, ℕ, ◌+◌, ◌-◌, ◌*◌, ◌/◌, ◌%◌, ◌<◌, ◌≤◌, Bool, true, false, List, [], ◌∷◌, length, refl, sym, ap, subst, ◌∙◌, arith, cond, not, length-drop, bit_and}
 use Rattle.std.specs.Bool.{beq}
 use Rattle.std.specs.Int.{from_bool}
 use Rattle.std.proofs.lemmas.Nat.{and_mask}
@@ -19,6 +19,16 @@ beq_twice true true = refl
 beq_twice true false = refl
 beq_twice false true = refl
 beq_twice false false = refl
+
+pub probable_bit : (probable mps : Bool) → probable ≡ true → beq probable mps ≡ mps
+probable_bit true true e = refl
+probable_bit true false e = refl
+probable_bit false mps e = absurd cc
+
+pub other_bit : (probable mps : Bool) → probable ≡ false → beq probable mps ≡ not mps
+other_bit true mps e = absurd cc
+other_bit false true e = refl
+other_bit false false e = refl
 
 -- what holds of a decoder holds of its fields
 pub HasDecoded-fields : (r o : ℕ) (t s : List Bool) (d : Decoding) → ◌≡◌ {A = Decoding} (record { range = r; offset = o; taken = t; left = s }) d

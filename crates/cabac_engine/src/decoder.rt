@@ -55,6 +55,19 @@ impl<B: BitSource> Decoder<B> {
         }
     }
 
+    /// Whether so few bits are looked up that a bin may have to look up more. A hint: no answer rests on it.
+    #[inline(always)]
+    pub fn is_short(&self) -> bool {
+        self.offset.is_short()
+    }
+
+    /// Looks up bits ahead, as many as are left or fit.
+    pub fn look_ahead(&mut self)
+        ensures { self.new ≡ self.old }
+    {
+        self.offset.look_ahead();
+    }
+
     /// The next bin of a context, whose cell goes on by it (9.3.3.2.1), or None exactly where the bits ran out.
     #[inline(always)]
     pub fn bin(&mut self, cell: &mut Cell) -> Option<bool>
@@ -67,10 +80,13 @@ impl<B: BitSource> Decoder<B> {
         ensures none { IfNone result (self.new.range < 256) }
     {
         let lps = range_lps(cell.p, ((self.range >> 6) & 3) as u8);
-        let probable = self.narrow(lps)?;
-        let bit = probable == cell.mps;
-        *cell = cell.after(bit);
-        Some(bit)
+        let mps = cell.mps;
+        if self.narrow(lps)? {
+            *cell = cell.after(mps);
+            return Some(mps);
+        }
+        *cell = cell.after(!mps);
+        Some(!mps)
     }
 
     /// The next bypass bin (9.3.3.2.3), or None exactly where no bit is left.
@@ -137,7 +153,7 @@ impl<B: BitSource> Decoder<B> {
     /// Doubles a range until it is at least 256, and takes as many bits into the offset (9.3.3.2.2).
     #[inline(always)]
     fn refill(&mut self, range: u16) -> Option<()>
-        requires some { 0 < range }
+        requires some { 2 ≤ range }
         requires nine_bits { range < 512 }
         requires within { self.old.offset < range }
         ensures answer { MatchOption result

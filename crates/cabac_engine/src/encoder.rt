@@ -124,7 +124,7 @@ impl<B: BitSink> Encoder<B> {
     /// are at least 256 (9.3.4.3).
     #[inline(always)]
     fn renormalise(&mut self, skipped: u16, range: u16) -> Result<(), Memory>
-        requires some { 0 < range }
+        requires some { 2 ≤ range }
         requires open { IsEncoding self.old }
         requires within { skipped + range ≤ self.old.range }
         ensures doubled { OnOk result (Renormalises skipped range self.old self.new) }

@@ -113,8 +113,16 @@ impl<B: BitSource> OffsetBits<B> {
         self.ready -= count;
     }
 
+    /// Whether a doubling may need more bits than are ready.
+    #[inline(always)]
+    pub(crate) fn is_short(&self) -> bool
+        ensures { MatchBool result (self.now.ready < 8) (8 ≤ self.now.ready) }
+    {
+        self.ready < 8
+    }
+
     /// Looks up bits behind the offset, as many as are left or fit.
-    fn look_ahead(&mut self)
+    pub(crate) fn look_ahead(&mut self)
         ensures { self.new ≡ record { offset = self.old.offset; ready = min 48 (length self.old.left); taken = self.old.taken; left = self.old.left } }
     {
         let offset = self.value >> self.ready;

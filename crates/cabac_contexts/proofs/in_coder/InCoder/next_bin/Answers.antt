@@ -3,7 +3,7 @@ use Rattle.cabac_engine.specs.Bins.{in_context}
 use Rattle.cabac_contexts.specs.States.{state_in}
 use Rattle.cabac_contexts.specs.Coders.{InCoding, GivesBin}
 use Rattle.cabac_contexts.proofs.Cells.{gives_context}
-use Rattle.cabac_contexts.proofs.in_coder.InCoderBinSource.bin.Goals as goal
+use Rattle.cabac_contexts.proofs.in_coder.InCoder.next_bin.Goals as goal
 
 pub returns-clause-step : goal.returns-clause-step
 returns-clause-step g c = rw c.set_cell.ensures
