@@ -63,18 +63,6 @@ pub code_found : (codes : List Code) (window place n : ℕ) (left new : List Boo
 code_found codes window place n left new e found size h rest =
     (found.0, text_from_window left (word_at codes place) found.1.0 n (sym (window_bits window left e) ∙ found.1.1) (word_size codes place ∙ sym size) h ∙ ap (λ t. word_at codes place ++ t) (sym rest))
 
-pub entry_length : (codes : List Code) (place k n v : ℕ) (o : Option Code) → o ≡ present (code_at codes k) → k ≡ place → o ≡ Some (n, v) → n ≡ (code_at codes place).0
-entry_length codes place k n v o entry same some =
-    ap (λ (c : Code). c.0) (of (code_at codes k) (n, v) (cases_Bool (eqb (code_at codes k).0 0)) (sym entry ∙ some)) ∙ ap (λ i. (code_at codes i).0) same
-  where
-    of : (c d : Code) → (eqb c.0 0 ≡ true) ⊎ (eqb c.0 0 ≡ false) → present c ≡ Some d → d ≡ c
-    of c d (inl e) h =
-        let P : Bool → Type 0 = λ b. cond b None (Some c) ≡ Some d in
-        absurd (let bad : ◌≡◌ {A = Option Code} None (Some d) = subst P e h in cc)
-    of c d (inr e) h =
-        let P : Bool → Type 0 = λ b. cond b None (Some c) ≡ Some d in
-        let here : ◌≡◌ {A = Option Code} (Some c) (Some d) = subst P e h in cc
-
 -- an entry that is absent has no bits
 pub nothing_stands : (codes : List Code) (place : ℕ) (o : Option Code) (old : List Bool) → o ≡ present (code_at codes place) → o ≡ None → Appended old old (word_at codes place)
 nothing_stands codes place o old entry none = by (cases_Bool (eqb (code_at codes place).0 0)) (sym entry ∙ none)

@@ -13,8 +13,7 @@ pub fn read_code<B: BitSource>(b: &mut B, table: &CodeTable) -> Option<u8>
     ensures reads { Reads (IsEntry table.now) (word_at table.now) (B.left b.old) result (B.left b.new) }
     ensures kept { B.taken b.new ++ B.left b.new ≡ B.taken b.old ++ B.left b.old }
 {
-    let place = table.next(b.window())?;
-    let (length, _value) = table.code(usize::from(place))?;
+    let (place, length) = table.next_code(b.window())?;
     if !b.skip(length) {
         return None;
     }

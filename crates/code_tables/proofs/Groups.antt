@@ -244,3 +244,16 @@ found_some groups places codes all i place bits entry code same l below begin at
     let P : Option Code → Type 0 = λ o. Found codes bits place o in
     let Q : List Code → Type 0 = λ cs. BeginsWith cs bits (Some place) in
     subst Q same (subst P e (found_in groups places codes i place bits entry l below begin at is))
+
+pub found_length : (codes all : List Code) (place k n v : ℕ) (o : Option Code) → codes ≡ all → o ≡ present (code_at codes k) → k ≡ place → o ≡ Some (n, v) → n ≡ (code_at all place).0
+found_length codes all place k n v o same entry at some =
+    ap (λ (c : Code). c.0) (of (code_at codes k) (n, v) (cases_Bool (eqb (code_at codes k).0 0)) (sym entry ∙ some))
+    ∙ ap (λ i. (code_at codes i).0) at ∙ ap (λ (cs : List Code). (code_at cs place).0) same
+  where
+    of : (c d : Code) → (eqb c.0 0 ≡ true) ⊎ (eqb c.0 0 ≡ false) → present c ≡ Some d → d ≡ c
+    of c d (inl e) h =
+        let P : Bool → Type 0 = λ b. cond b None (Some c) ≡ Some d in
+        absurd (let bad : ◌≡◌ {A = Option Code} None (Some d) = subst P e h in cc)
+    of c d (inr e) h =
+        let P : Bool → Type 0 = λ b. cond b None (Some c) ≡ Some d in
+        let here : ◌≡◌ {A = Option Code} (Some c) (Some d) = subst P e h in cc

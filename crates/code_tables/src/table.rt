@@ -43,7 +43,7 @@ impl Model for CodeTable {
 }
 
 impl CodeTable {
-    ghost use Rattle.std.specs.Prelude.{◌≡◌, []};
+    ghost use Rattle.std.specs.Prelude.{◌≡◌, [], IfSome, option_map};
     ghost use Rattle.bit_texts.specs.Bits.{binary};
     ghost use Rattle.code_tables.specs.Codes.{BeginsWith, IsCodeTable, code_at, present};
     ghost use Rattle.code_tables.specs.Groups.{Locates};
@@ -80,9 +80,18 @@ impl CodeTable {
     pub fn next(&self, window: u64) -> Option<u8>
         ensures { BeginsWith self.now (binary 64 window) result }
     {
-        let place = self.places[group_of(self.groups, window)];
-        entry_at(self.codes, usize::from(place))?;
+        let (place, _length) = self.next_code(window)?;
         Some(place)
+    }
+
+    /// The place of the code word that the next 64 bits begin with, as `next` tells it, and its number of bits.
+    pub fn next_code(&self, window: u64) -> Option<(u8, u8)>
+        ensures begins { BeginsWith self.now (binary 64 window) (option_map (λ c. c.0) result) }
+        ensures length { IfSome result (λ c. c.1 ≡ (code_at self.now c.0).0) }
+    {
+        let place = self.places[group_of(self.groups, window)];
+        let (length, _value) = entry_at(self.codes, usize::from(place))?;
+        Some((place, length))
     }
 }
 
