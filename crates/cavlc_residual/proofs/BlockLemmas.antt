@@ -12,7 +12,7 @@ use Rattle.code_tables.specs.TotalZeros.{total_zeros_list}
 use Rattle.cavlc_residual.specs.Level.{level_word}
 use Rattle.cavlc_residual.specs.Coefficients.{magnitude, code_of, next_suffix_length, AreCoefficients}
 use Rattle.cavlc_residual.specs.Block.{IsShape, is_nonzero, total_coeff, is_one, leading_zeros, runs_of, ones_within, trailing_ones, first_suffix_length, first_extra, levels_text, runs_text, parts_text, block_text, is_above, levels_above, is_beyond, IsBlock}
-use Rattle.cavlc_residual.specs.Parts.{IsToken, token_text, AreLevels, scan_of}
+use Rattle.cavlc_residual.specs.Parts.{IsToken, token_text, AreLevels, scan_of, ReadsPlaced}
 use Rattle.code_tables.proofs.CodeTables.{all_below, all_below-at}
 use Rattle.cavlc_residual.proofs.LevelLemmas.{level_word-small}
 use Rattle.cavlc_residual.proofs.RunLemmas.{IsSize, AreZeros, IsRuns, zeros_none, IsPrefixFree-zeros, IsPrefixFree-runs}
@@ -415,6 +415,27 @@ block_is_read m nc max bound t o z ls bits mid tail runs e shape h token levels 
     same : (r : Option (List ℕ)) → Reads (IsBlock max bound) (block_text nc) bits (option_map (block_of max) (option_map (λ w. ((t, o), w)) (option_map (λ w. (ls, w)) (option_map (λ rs. (z, rs)) r)))) rest → Reads (IsBlock max bound) (block_text nc) bits (option_map (λ rs. block_of max ((t, o), (ls, (z, rs)))) r) rest
     same None w = w
     same (Some rs) w = w
+
+-- the same with the block that the levels were put into
+pub placed_is_read : (m nc : ℤ) (max bound t o z size : ℕ) (ls xs : List ℤ) (bits mid tail runs : List Bool) → m ≡ nc → IsShape nc max → bound ≤ 20 → IsToken m max (t, o) × (bits ≡ token_text m (t, o) ++ mid) → AreLevels (t, o) bound ls × (mid ≡ levels_text ls ++ tail) → AreZeros max t z × (tail ≡ word_at (total_zeros_list max t) z ++ runs) → xs ≡ ls → size ≡ max → (r : Option (List ℤ)) (rest : List Bool) → ReadsPlaced xs z size runs r rest → Reads (IsBlock max bound) (block_text nc) bits r rest
+placed_is_read m nc max bound t o z size ls xs bits mid tail runs e shape h token levels all_zeros same fits None rest read =
+    let count : length xs ≡ t = ap (length {A = ℤ}) same ∙ levels.0.count in
+    let P : ℕ → Type 0 = λ n. Reads (IsRuns n z) (runs_text z) runs None rest in
+    block_is_read m nc max bound t o z ls bits mid tail runs e shape h token levels all_zeros None rest (subst P count read)
+placed_is_read m nc max bound t o z size ls xs bits mid tail runs e shape h token levels all_zeros same fits (Some block) rest read =
+    let rs = read.0 in
+    let count : length xs ≡ t = ap (length {A = ℤ}) same ∙ levels.0.count in
+    let P : ℕ → Type 0 = λ n. IsRuns n z rs × (runs ≡ runs_text z rs ++ rest) in
+    let Q : List ℤ → Type 0 = λ b. IsBlock max bound b × (bits ≡ block_text nc b ++ rest) in
+    let is : block ≡ scan_of ls rs ++ zeros (max - (length ls + sum rs)) =
+    read.2 ∙ ap (λ (x : List ℤ). scan_of x rs ++ zeros (size - (length x + z))) same ∙ ap (λ n. scan_of ls rs ++ zeros (n - (length ls + z))) fits
+    ∙ ap (λ n. scan_of ls rs ++ zeros (max - (length ls + n))) (sym read.1.0.1) in
+    subst Q (sym is) (block_is_read m nc max bound t o z ls bits mid tail runs e shape h token levels all_zeros (Some rs) rest (subst P count read.1))
+
+pub placed_total : (t o bound z size : ℕ) (ls xs block : List ℤ) (runs rest : List Bool) → AreLevels (t, o) bound ls → xs ≡ ls → ReadsPlaced xs z size runs (Some block) rest → t ≡ total_coeff block
+placed_total t o bound z size ls xs block runs rest are same read =
+    total_of t o bound (size - (length xs + z)) ls read.0 block are (read.1.0.0 ∙ ap (length {A = ℤ}) same ∙ are.count)
+    (read.2 ∙ ap (λ x. scan_of x read.0 ++ zeros (size - (length xs + z))) same)
 
 -- a block of levels 0 is all that a coeff_token with no levels says
 pub none_is_read : (m nc : ℤ) (max bound t o : ℕ) (levels : List ℤ) (bits rest : List Bool) → m ≡ nc → IsShape nc max → bound ≤ 20 → t ≡ 0 → IsToken m max (t, o) × (bits ≡ token_text m (t, o) ++ rest) → levels ≡ zeros max → IsBlock max bound levels × (bits ≡ block_text nc levels ++ rest)

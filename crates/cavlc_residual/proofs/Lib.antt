@@ -5,5 +5,6 @@ pub mod CoefficientLemmas
 pub mod RunLemmas
 pub mod PartLemmas
 pub mod ScanLemmas
+pub mod PlaceLemmas
 pub mod BlockLemmas
 pub mod WriteLemmas

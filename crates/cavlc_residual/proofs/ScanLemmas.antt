@@ -1,7 +1,6 @@
-use Rattle.std.proofs.Common.{◌≡◌, ℕ, zero, suc, ◌+◌, ◌-◌, ◌<◌, ◌≤◌, ℤ, pos, negsuc, Bool, true, false, cond, List, [], ◌∷◌, ◌++◌, length, drop, sum, get_or, filter, reverse, replicate, refl, sym, ap, ◌∙◌, subst, arith, ◌⊎◌, inl, inr, length-append, append_assoc, add-one, zero-add}
+use Rattle.std.proofs.Common.{◌≡◌, ℕ, zero, suc, ◌+◌, ℤ, pos, negsuc, Bool, true, false, cond, List, [], ◌∷◌, ◌++◌, length, sum, filter, reverse, replicate, refl, sym, ap, ◌∙◌, subst, arith, ◌⊎◌, inl, inr, length-append, add-one}
 use Rattle.std.specs.List.{AllByRecursion}
-use Rattle.std.specs.Prelude.{slice_set}
-use Rattle.std.proofs.lemmas.List.{drop_all, reverse-append, length-replicate, length-reverse, replicate_more, drop_more, length-drop}
+use Rattle.std.proofs.lemmas.List.{reverse-append, length-replicate, length-reverse, replicate_more}
 use Rattle.std.proofs.lemmas.List.Sums.{sum_by-cons}
 use Rattle.std.proofs.lemmas.Bool.{cases_Bool, false≢true, ltb-false}
 use Rattle.cavlc_residual.specs.Block.{is_nonzero, leading_zeros, runs_of}
@@ -116,84 +115,6 @@ length_parts ds =
     ap length (expand_of ds) ∙ (length-append (zeros (leading_zeros ds)) (expand (filter is_nonzero ds) (runs_of ds))
     ∙ (ap (λ n. n + length (expand (filter is_nonzero ds) (runs_of ds))) (length-replicate (leading_zeros ds) (pos 0))
     ∙ ap (λ n. leading_zeros ds + n) (length-expand (filter is_nonzero ds) (runs_of ds) (sym (length-runs_of ds)))))
-
--- ---- placing them
-
-pub sum-drop : (at : ℕ) (rs : List ℕ) → sum (drop at rs) ≤ sum rs
-sum-drop zero rs = omega arith
-sum-drop (suc at) [] = omega arith
-sum-drop (suc at) (r ∷ rs) = omega (arith, sum-drop at rs, sum_by-cons (λ x. x) r rs)
-
--- the levels from a place on
-abbrev pub scan_from : ℕ → List ℤ → List ℕ → List ℤ
-scan_from at ls rs = scan_of (drop at ls) (drop at rs)
-
--- the levels from a place on stand in the block, and zeros behind them
-pub record Placed (ls : List ℤ) (rs : List ℕ) (at next size : ℕ) (block : List ℤ) : Type 0 where
-  pub within : at ≤ length ls
-  pub next_is : next ≡ length (scan_from at ls rs)
-  pub block_is : block ≡ scan_from at ls rs ++ zeros (size - next)
-
-pub Placed-start : (ls : List ℤ) (rs : List ℕ) (at size : ℕ) (block : List ℤ) → length ls ≡ length rs → at ≡ length ls → block ≡ zeros size → Placed ls rs at 0 size block
-Placed-start ls rs at size block pairs end e =
-    let none : scan_from at ls rs ≡ [] = ap (λ t. scan_of t (drop at rs)) (drop_all at ls (omega (arith, end))) in
-    record { within = omega (arith, end); next_is = ap (length {A = ℤ}) (sym none); block_is = e ∙ ap zeros (let same : size ≡ size - 0 = omega arith in same) ∙ ap (λ t. t ++ zeros (size - 0)) (sym none) }
-
--- there is room for one run and one level more
-pub place_room : (ls : List ℤ) (rs : List ℕ) (at next size : ℕ) (block : List ℤ) → length ls ≡ length rs → 0 < at → length ls + sum rs ≤ size → Placed ls rs at next size block → (next + get_or rs (at - 1) 0 + 1 ≤ size) × (length block ≡ size)
-place_room ls rs at next size block pairs p fits placed =
-    let rest = length-scan (drop at ls) (drop at rs) (length-drop at ls ∙ (ap (λ n. n - at) pairs ∙ sym (length-drop at rs))) in
-    let left = length-drop at ls in
-    let run = ap sum (drop_more rs (at - 1) 0 (omega (arith, placed.within, pairs, p))) in
-    let again = ap (λ n. sum (drop n rs)) (let e : at - 1 + 1 ≡ at = omega (arith, p) in e) in
-    let whole = sum-drop (at - 1) rs in
-    let split = sum_by-cons (λ x. x) (get_or rs (at - 1) 0) (drop (at - 1 + 1) rs) in
-    let room : next + get_or rs (at - 1) 0 + 1 ≤ size = omega (arith, placed.next_is, placed.within, rest, left, run, again, whole, split, p, fits) in
-    (room, ap length placed.block_is ∙ length-append (scan_from at ls rs) (zeros (size - next)) ∙ omega (arith, length-replicate (size - next) (pos 0), placed.next_is, room))
-
--- a level that is set behind a run of the zeros
-set_behind : (xs : List ℤ) (r k : ℕ) (l : ℤ) → slice_set (xs ++ zeros (r + suc k)) (length xs + r) l ≡ xs ++ (zeros r ++ l ∷ zeros k)
-set_behind [] zero k l = rw zero-add refl
-set_behind [] (suc r) k l =
-    let more : suc r + suc k ≡ suc (r + suc k) = omega arith in
-    let at : 0 + suc r ≡ suc (0 + r) = omega arith in
-    rw (more, at) (ap (λ t. pos 0 ∷ t) (set_behind [] r k l))
-set_behind (x ∷ xs) r k l =
-    let at : suc (length xs) + r ≡ suc (length xs + r) = omega arith in
-    rw at (ap (λ t. x ∷ t) (set_behind xs r k l))
-
-pub Placed-next : (ls : List ℤ) (rs : List ℕ) (at next size run : ℕ) (level : ℤ) (block new : List ℤ) → length ls ≡ length rs → 0 < at → length ls + sum rs ≤ size → Placed ls rs at next size block → run ≡ get_or rs (at - 1) 0 → level ≡ get_or ls (at - 1) (pos 0) → new ≡ slice_set block (next + run) level → Placed ls rs (at - 1) (next + run + 1) size new
-Placed-next ls rs at next size run level block new pairs p fits placed run_is level_is e =
-    let room = (place_room ls rs at next size block pairs p fits placed).0 in
-    let here : at ≡ at - 1 + 1 = omega (arith, p) in
-    let xs = scan_from at ls rs in
-    let k : ℕ = size - (next + run + 1) in
-    let first : drop (at - 1) ls ≡ get_or ls (at - 1) (pos 0) ∷ drop (at - 1 + 1) ls = drop_more ls (at - 1) (pos 0) (omega (arith, placed.within, p)) in
-    let second : drop (at - 1) rs ≡ get_or rs (at - 1) 0 ∷ drop (at - 1 + 1) rs = drop_more rs (at - 1) 0 (omega (arith, placed.within, p, pairs)) in
-    let tail : scan_of (drop (at - 1 + 1) ls) (drop (at - 1 + 1) rs) ≡ xs = ap (λ n. scan_from n ls rs) (sym here) in
-    let grown : scan_from (at - 1) ls rs ≡ xs ++ (zeros run ++ level ∷ []) =
-    ap (λ t. scan_of t (drop (at - 1) rs)) first ∙ ap (λ t. scan_of (get_or ls (at - 1) (pos 0) ∷ drop (at - 1 + 1) ls) t) second
-    ∙ ap (λ t. t ++ (zeros (get_or rs (at - 1) 0) ++ get_or ls (at - 1) (pos 0) ∷ [])) tail
-    ∙ ap (λ n. xs ++ (zeros n ++ get_or ls (at - 1) (pos 0) ∷ [])) (sym run_is)
-    ∙ ap (λ l. xs ++ (zeros run ++ l ∷ [])) (sym level_is) in
-    let left : size - next ≡ run + suc k = omega (arith, room, run_is) in
-    let set = e ∙ ap (λ b. slice_set b (next + run) level) placed.block_is ∙ ap (λ n. slice_set (xs ++ zeros n) (next + run) level) left ∙ ap (λ n. slice_set (xs ++ zeros (run + suc k)) (n + run) level) placed.next_is ∙ set_behind xs run k level in
-    let shape : xs ++ (zeros run ++ level ∷ zeros k) ≡ (xs ++ (zeros run ++ level ∷ [])) ++ zeros k =
-    ap (λ t. xs ++ t) (sym (append_assoc (zeros run) (level ∷ []) (zeros k))) ∙ sym (append_assoc xs (zeros run ++ level ∷ []) (zeros k)) in
-    let size_is = length-append xs (zeros run ++ level ∷ []) in
-    let part = length-append (zeros run) (level ∷ []) in
-    record {
-      within = omega (arith, placed.within);
-      next_is = omega (arith, ap (length {A = ℤ}) grown, size_is, part, length-replicate run (pos 0), placed.next_is);
-      block_is = set ∙ shape ∙ ap (λ t. t ++ zeros k) (sym grown);
-    }
-
-pub Placed-end : (ls : List ℤ) (rs : List ℕ) (at next size : ℕ) (block : List ℤ) → length ls ≡ length rs → at ≤ 0 → Placed ls rs at next size block → block ≡ scan_of ls rs ++ zeros (size - (length ls + sum rs))
-Placed-end ls rs at next size block pairs end placed =
-    let none : at ≡ 0 = omega (arith, end) in
-    let all : scan_from at ls rs ≡ scan_of ls rs = ap (λ n. scan_from n ls rs) none in
-    let total : next ≡ length ls + sum rs = placed.next_is ∙ ap (length {A = ℤ}) all ∙ length-scan ls rs pairs in
-    placed.block_is ∙ ap (λ t. t ++ zeros (size - next)) all ∙ ap (λ n. scan_of ls rs ++ zeros (size - n)) total
 
 -- ---- how many levels there are
 

@@ -1,9 +1,10 @@
-use Rattle.std.specs.Prelude.{◌≡◌, ℕ, ◌+◌, ◌*◌, ◌<◌, ◌≤◌, ℤ, pos, Bool, true, List, [], ◌∷◌, ◌++◌, length, drop, replicate}
+use Rattle.std.specs.Prelude.{◌≡◌, ℕ, ◌+◌, ◌-◌, ◌*◌, ◌<◌, ◌≤◌, ℤ, pos, Bool, true, List, [], ◌∷◌, ◌++◌, length, drop, replicate, sum, Option, Some, None}
+use Rattle.bit_texts.specs.Texts.{Reads}
 use Rattle.std.specs.List.{AllByRecursion}
 use Rattle.code_tables.specs.Codes.{IsEntry, word_at}
 use Rattle.code_tables.specs.CoeffToken.{coeff_token_list}
 use Rattle.cavlc_residual.specs.Coefficients.{AreCoefficients}
-use Rattle.cavlc_residual.specs.Block.{is_one, trailing_ones, first_suffix_length, first_extra}
+use Rattle.cavlc_residual.specs.Block.{is_one, trailing_ones, first_suffix_length, first_extra, runs_text}
 
 -- What the parts of a block's text are read as.
 
@@ -29,3 +30,11 @@ abbrev pub scan_of : List ℤ → List ℕ → List ℤ
 scan_of (l ∷ ls) (r ∷ rs) = scan_of ls rs ++ (replicate r (pos 0) ++ l ∷ [])
 scan_of [] rs = []
 scan_of (l ∷ ls) [] = []
+
+-- What was read of the runs behind the levels ls, which have so many zeros between and below them, and the block of `size`
+-- levels in which they then stand.
+abbrev pub ReadsPlaced : List ℤ → ℕ → ℕ → List Bool → Option (List ℤ) → List Bool → Type 0
+ReadsPlaced ls zeros size left None rest = Reads (λ rs. (length rs ≡ length ls) × (sum rs ≡ zeros)) (runs_text zeros) left None rest
+ReadsPlaced ls zeros size left (Some block) rest =
+    (rs : List ℕ) × Reads (λ rs. (length rs ≡ length ls) × (sum rs ≡ zeros)) (runs_text zeros) left (Some rs) rest
+    × (block ≡ scan_of ls rs ++ replicate (size - (length ls + zeros)) (pos 0))

@@ -1,10 +1,10 @@
-ghost use Rattle.std.specs.Prelude.{◌≡◌, ◌≢◌, ◌↔◌, true, ◌+◌, ◌-◌, ◌<◌, ◌≤◌, ◌++◌, pos, length, sum, replicate, IfSome, option_map};
+ghost use Rattle.std.specs.Prelude.{◌≡◌, ◌≢◌, ◌↔◌, true, ◌+◌, ◌≤◌, ◌++◌, length, sum, IfSome, option_map};
 ghost use Rattle.std.specs.List.{AllByRecursion};
 ghost use Rattle.arrayvec.specs.ArrayVec.{array_vec_len};
 ghost use Rattle.bit_texts.specs.Texts.{Reads, Appends};
 ghost use Rattle.cavlc_residual.specs.Coefficients.{magnitude};
 ghost use Rattle.cavlc_residual.specs.Block.{IsShape, trailing_ones, total_coeff, levels_text, parts_text, block_text, is_beyond, IsBlock};
-ghost use Rattle.cavlc_residual.specs.Parts.{AreLevels, scan_of};
+ghost use Rattle.cavlc_residual.specs.Parts.{AreLevels};
 
 use crate::beyond::levels_above;
 use crate::coefficients::Coefficients;
@@ -18,24 +18,6 @@ use exp_golomb::{BitSink, BitSource};
 use h264_types::Levels;
 use std::alloc::AllocError as Memory;
 
-/// Puts levels other than 0 and the zeros behind them into a block, in scan order.
-fn place(block: &mut [i32], levels: &Coefficients, runs: &Runs)
-    requires pairs { array_vec_len levels.now ≡ array_vec_len runs.now }
-    requires fits { array_vec_len levels.now + sum runs.now.items ≤ length block.old }
-    requires small { length block.old ≤ 16 }
-    ensures { block.new ≡ scan_of levels.now.items runs.now.items ++ replicate (length block.old - (array_vec_len levels.now + sum runs.now.items)) (pos 0) }
-{
-    block.fill(0);
-    let mut next = 0usize;
-    let mut at = levels.len();
-    while at > 0 {
-        at -= 1;
-        next += usize::from(runs.as_slice()[at]);
-        block[next] = levels.as_slice()[at];
-        next += 1;
-    }
-}
-
 /// Reads a block of as many levels as the list that is lent has, into that list, and answers TotalCoeff.
 /// None exactly where no block in range has a text, with no level_prefix above `bound`, that begins the bits left;
 /// what the list then holds isn't said.
@@ -48,15 +30,14 @@ pub fn read_levels<B: BitSource>(b: &mut B, nc: i8, levels: &mut [i32], bound: u
 {
     let max = levels.len() as u8;
     let (total, ones) = read_token(b, nc, max)?;
+    levels.fill(0);
     if total == 0 {
-        levels.fill(0);
         return Some(0);
     }
     let mut coefficients = Coefficients::new();
     read_nonzero(b, total, ones, bound, &mut coefficients)?;
     let zeros = read_total_zeros(b, max, total)?;
-    let runs = read_runs(b, total, zeros)?;
-    place(levels, &coefficients, &runs);
+    read_runs(b, coefficients.as_slice(), zeros, levels)?;
     Some(total)
 }
 

@@ -12,6 +12,20 @@ fn size_of_suffix(suffix_length: u8, prefix: u8) -> u8
     ensures size { result ≡ suffix_size suffix_length prefix }
     ensures small { result ≤ 17 }
 {
+    if prefix < 14 {
+        return suffix_length;
+    }
+    size_of_long_suffix(suffix_length, prefix)
+}
+
+/// The number of bits of level_suffix behind a level_prefix from 14 on.
+#[cold]
+fn size_of_long_suffix(suffix_length: u8, prefix: u8) -> u8
+    requires small { suffix_length ≤ 6 }
+    requires within { prefix ≤ 20 }
+    ensures size { result ≡ suffix_size suffix_length prefix }
+    ensures small { result ≤ 17 }
+{
     if prefix >= 15 {
         prefix - 3
     } else if prefix == 14 && suffix_length == 0 {
@@ -48,8 +62,22 @@ pub fn code_of_level(suffix_length: u8, prefix: u8, suffix: u32) -> u32
     requires is_word { IsLevelWord suffix_length 20 (prefix, suffix) }
     ensures { result ≡ level_code suffix_length prefix suffix }
 {
-    let mut code = (u32::from(prefix.min(15)) << suffix_length) + suffix;
-    if prefix >= 15 && suffix_length == 0 {
+    if prefix < 15 {
+        return (u32::from(prefix) << suffix_length) + suffix;
+    }
+    code_of_escape(suffix_length, prefix, suffix)
+}
+
+/// levelCode of a level_prefix from 15 on and a level_suffix.
+#[cold]
+fn code_of_escape(suffix_length: u8, prefix: u8, suffix: u32) -> u32
+    requires small { suffix_length ≤ 6 }
+    requires is_word { IsLevelWord suffix_length 20 (prefix, suffix) }
+    requires long { 15 ≤ prefix }
+    ensures { result ≡ level_code suffix_length prefix suffix }
+{
+    let mut code = (15 << suffix_length) + suffix;
+    if suffix_length == 0 {
         code += 15;
     }
     if prefix >= 16 {

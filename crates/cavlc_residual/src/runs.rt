@@ -1,9 +1,9 @@
-ghost use Rattle.std.specs.Prelude.{◌≡◌, ◌+◌, ◌≤◌, ◌⊎◌, ◌++◌, length, sum, option_map};
+ghost use Rattle.std.specs.Prelude.{◌≡◌, ◌+◌, ◌<◌, ◌≤◌, ◌⊎◌, ◌++◌, pos, length, replicate, option_map};
 ghost use Rattle.bit_texts.specs.Texts.{Reads, Appends};
 ghost use Rattle.code_tables.specs.Codes.{word_at};
 ghost use Rattle.code_tables.specs.TotalZeros.{total_zeros_list};
 ghost use Rattle.code_tables.specs.RunBefore.{run_before_list};
-ghost use Rattle.cavlc_residual.specs.Block.{runs_text};
+ghost use Rattle.cavlc_residual.specs.Parts.{ReadsPlaced};
 
 use crate::words::{read_code, write_code};
 use arrayvec::ArrayVec;
@@ -46,23 +46,28 @@ pub fn write_run<B: BitSink>(b: &mut B, left: u8, run: u8) -> Result<(), Memory>
     write_code(b, &run_before_table(left), usize::from(run))
 }
 
-/// Reads the runs behind `count` levels other than 0, which have `zeros` zeros between and below them.
-pub fn read_runs<B: BitSource>(b: &mut B, count: u8, zeros: u8) -> Option<Runs>
-    requires fits { count + zeros ≤ 16 }
-    requires none { count ≡ 0 → zeros ≡ 0 }
-    ensures reads { Reads (λ rs. (length rs ≡ count) × (sum rs ≡ zeros)) (runs_text zeros) (B.left b.old) (option_map (λ v. v.items) result) (B.left b.new) }
+/// Reads the runs behind levels other than 0, which have `zeros` zeros between and below them, and puts the levels at
+/// their places in a block of levels 0.
+pub fn read_runs<B: BitSource>(
+    b: &mut B,
+    levels: &[i32],
+    zeros: u8,
+    block: &mut [i32],
+) -> Option<()>
+    requires some { 0 < length levels.now }
+    requires fits { length levels.now + zeros ≤ length block.old }
+    requires small { length block.old ≤ 16 }
+    requires clear { block.old ≡ replicate (length block.old) (pos 0) }
+    ensures reads { ReadsPlaced levels.now zeros (length block.old) (B.left b.old) (option_map (λ _. block.new) result) (B.left b.new) }
     ensures kept { B.taken b.new ++ B.left b.new ≡ B.taken b.old ++ B.left b.old }
 {
-    let mut runs = Runs::new();
-    if count == 0 {
-        return Some(runs);
-    }
+    let last = levels.len() - 1;
     let mut left = zeros;
-    for _i in 0..count - 1 {
+    for i in 0..last {
+        block[last - i + usize::from(left)] = levels[i];
         let run = read_run(b, left)?;
-        runs.push(run);
         left -= run;
     }
-    runs.push(left);
-    Some(runs)
+    block[usize::from(left)] = levels[last];
+    Some(())
 }

@@ -1,9 +1,8 @@
-use Rattle.std.proofs.Common.{◌≡◌, ℤ, pos, List, length, replicate, ◌++◌, Some, None, ap, sym, subst, w8, arith, rules}
+use Rattle.std.proofs.Common.{◌≡◌, ℤ, pos, length, replicate, Some, None, ap, sym, ◌∙◌, w8, arith, rules}
 use Rattle.std.specs.Option.{option_map}
 use Rattle.std.proofs.lemmas.Int.{to_z-of_z}
 use Rattle.bit_texts.proofs.Reading.{Reads-None}
-use Rattle.cavlc_residual.specs.Block.{block_text, IsBlock}
-use Rattle.cavlc_residual.proofs.BlockLemmas.{token_entry, token_of, size_of_shape, size-small, ends_at_token, ends_at_levels, ends_at_zeros, block_is_read, none_is_read, total_of, total_of_none}
+use Rattle.cavlc_residual.proofs.BlockLemmas.{token_entry, token_of, size_of_shape, size-small, ends_at_token, ends_at_levels, ends_at_zeros, none_is_read, placed_is_read, placed_total, total_of_none}
 use Rattle.cavlc_residual.proofs.block.read_levels.Goals as goal
 
 pub returns-in_err-total-clause-reads : goal.returns-in_err-total-clause-reads
@@ -32,23 +31,31 @@ returns-in_err-zeros-clause-reads g c =
     Reads-None _ _ _ _ _ (ap (option_map _) c.from_residual-in_err-zeros.ensures)
     (ends_at_zeros _ c.args.nc (length c.args.levels.now) c.args.bound c.in_ok-total.total c.in_ok-total.ones c.read_nonzero.new.levels.items _ _ _ (g.B.BitSource.left c.read_total_zeros.new.b) (to_z-of_z w8 c.args.nc c.ranges.nc) c.requires.shape c.requires.within c.in_ok-total.ensures.reads c.in_ok-read_nonzero.ensures.reads c.in_err-zeros.ensures.reads)
 
-pub read_runs-requires-clause-fits : goal.read_runs-requires-clause-fits
-read_runs-requires-clause-fits g c = omega (arith, c.in_ok-zeros.ensures.reads.0.0, size-small (length c.args.levels.now) (size_of_shape c.args.nc (length c.args.levels.now) c.requires.shape))
+pub read_runs-requires-clause-some : goal.read_runs-requires-clause-some
+read_runs-requires-clause-some g c = omega (arith, ap (length {A = ℤ}) c.as_slice.ensures.value, c.in_ok-read_nonzero.ensures.reads.0.count, c.if-total-eq0.false)
 
-pub returns-in_err-runs-clause-reads : goal.returns-in_err-runs-clause-reads
-returns-in_err-runs-clause-reads g c =
-    Reads-None _ _ _ _ _ (ap (option_map _) c.from_residual-in_err-runs.ensures)
-    (block_is_read _ c.args.nc (length c.args.levels.now) c.args.bound c.in_ok-total.total c.in_ok-total.ones c.in_ok-zeros.zeros c.read_nonzero.new.levels.items _ _ _ _ (to_z-of_z w8 c.args.nc c.ranges.nc) c.requires.shape c.requires.within c.in_ok-total.ensures.reads c.in_ok-read_nonzero.ensures.reads c.in_ok-zeros.ensures.reads None (g.B.BitSource.left c.read_runs.new.b) c.in_err-runs.ensures.reads)
+pub read_runs-requires-clause-fits : goal.read_runs-requires-clause-fits
+read_runs-requires-clause-fits g c = omega (arith, ap (length {A = ℤ}) c.as_slice.ensures.value, c.in_ok-read_nonzero.ensures.reads.0.count, c.in_ok-zeros.ensures.reads.0.0, c.fill.ensures.len)
+
+pub read_runs-requires-clause-small : goal.read_runs-requires-clause-small
+read_runs-requires-clause-small g c = omega (arith, c.fill.ensures.len, size-small (length c.args.levels.now) (size_of_shape c.args.nc (length c.args.levels.now) c.requires.shape))
+
+pub read_runs-requires-clause-clear : goal.read_runs-requires-clause-clear
+read_runs-requires-clause-clear g c =
+    let all : c.fill.new.self ≡ replicate (length c.args.levels.now) (pos 0) = search rules in all ∙ ap (λ n. replicate n (pos 0)) (sym c.fill.ensures.len)
+
+pub returns-in_err-read_runs-clause-reads : goal.returns-in_err-read_runs-clause-reads
+returns-in_err-read_runs-clause-reads g c =
+    Reads-None _ _ _ _ _ (ap (option_map _) c.from_residual-in_err-read_runs.ensures)
+    (placed_is_read _ c.args.nc (length c.args.levels.now) c.args.bound c.in_ok-total.total c.in_ok-total.ones c.in_ok-zeros.zeros _ c.read_nonzero.new.levels.items _ _ _ _ _ (to_z-of_z w8 c.args.nc c.ranges.nc) c.requires.shape c.requires.within c.in_ok-total.ensures.reads c.in_ok-read_nonzero.ensures.reads c.in_ok-zeros.ensures.reads c.as_slice.ensures.value c.fill.ensures.len None (g.B.BitSource.left c.read_runs.new.b) c.in_err-read_runs.ensures.reads)
 
 pub returns-clause-reads : goal.returns-clause-reads
 returns-clause-reads g c =
-    let P : List ℤ → Type 0 = λ levels. IsBlock (length c.args.levels.now) c.args.bound levels × (g.B.BitSource.left c.args.b.now ≡ block_text c.args.nc levels ++ g.B.BitSource.left c.read_runs.new.b) in
-    subst P (sym c.place.ensures)
-    (block_is_read _ c.args.nc (length c.args.levels.now) c.args.bound c.in_ok-total.total c.in_ok-total.ones c.in_ok-zeros.zeros c.read_nonzero.new.levels.items _ _ _ _ (to_z-of_z w8 c.args.nc c.ranges.nc) c.requires.shape c.requires.within c.in_ok-total.ensures.reads c.in_ok-read_nonzero.ensures.reads c.in_ok-zeros.ensures.reads (Some c.in_ok-runs.runs.items) _ c.in_ok-runs.ensures.reads)
+    placed_is_read _ c.args.nc (length c.args.levels.now) c.args.bound c.in_ok-total.total c.in_ok-total.ones c.in_ok-zeros.zeros _ c.read_nonzero.new.levels.items _ _ _ _ _ (to_z-of_z w8 c.args.nc c.ranges.nc) c.requires.shape c.requires.within c.in_ok-total.ensures.reads c.in_ok-read_nonzero.ensures.reads c.in_ok-zeros.ensures.reads c.as_slice.ensures.value c.fill.ensures.len (Some c.read_runs.new.block) _ c.in_ok-read_runs.ensures.reads
 
 pub returns-clause-total : goal.returns-clause-total
 returns-clause-total g c =
-    total_of c.in_ok-total.total c.in_ok-total.ones c.args.bound _ c.read_nonzero.new.levels.items c.in_ok-runs.runs.items _ c.in_ok-read_nonzero.ensures.reads.0 c.in_ok-runs.ensures.reads.0.0 c.place.ensures
+    placed_total c.in_ok-total.total c.in_ok-total.ones c.args.bound c.in_ok-zeros.zeros _ c.read_nonzero.new.levels.items _ _ _ _ c.in_ok-read_nonzero.ensures.reads.0 c.as_slice.ensures.value c.in_ok-read_runs.ensures.reads
 
 pub returns-then-total-eq0-clause-reads : goal.returns-then-total-eq0-clause-reads
 returns-then-total-eq0-clause-reads g c =
