@@ -1,5 +1,7 @@
-ghost use Rattle.std.specs.Prelude.{◌≡◌, ◌+◌, ◌*◌, ◌<◌, ◌≤◌, ℕ, true, false, [], length, slice_index_or, IfSome};
+ghost use Rattle.std.specs.Prelude.{◌≡◌, ◌+◌, ◌*◌, ◌==◌, ◌<◌, ◌≤◌, ℕ, true, false, [], length, slice_index_or, IfSome};
+ghost use Rattle.std.specs.Int.{bit_at};
 ghost use Rattle.h264_types.specs.Macroblock.{quarter_of};
+ghost use Rattle.h264_types.specs.Valid.{IsCoded};
 ghost use Rattle.cavlc_residual.specs.Block.{total_coeff};
 ghost use Rattle.cavlc_mb_residual.specs.LumaBlocks as lists;
 ghost use Rattle.cavlc_mb_residual.specs.Counts as count;
@@ -57,27 +59,73 @@ impl OfMb for Counts {
 
     ghost Is = { count.AreSmallCounts };
 
-    #[tactic(auto, unfolding(crate::specs::LumaBlocks::sixteen))]
     fn of(mb: &Mb) -> Counts {
-        if mb.kind.is_i_pcm() {
-            return Counts {
-                luma: [16; 16],
-                cb: [16; 4],
-                cr: [16; 4],
-            };
-        }
         let [a, b, c, d] = &mb.luma;
         let [cb, cr] = &mb.chroma_ac;
-        let some = [has_levels(a), has_levels(b), has_levels(c), has_levels(d)];
-        Counts {
-            luma: luma_counts(mb, some),
-            cb: chroma_counts(cb, have_levels(cb)),
-            cr: chroma_counts(cr, have_levels(cr)),
-        }
+        let quarters = [has_levels(a), has_levels(b), has_levels(c), has_levels(d)];
+        counts_where(mb, quarters, have_levels(cb), have_levels(cr))
     }
 
     fn keep(mb: &Mb, kept: &mut HeapCircularBuffer<Counts>) {
         kept.push_back(Counts::of(mb));
+    }
+
+    fn keep_coded(mb: &Mb, kept: &mut HeapCircularBuffer<Counts>) {
+        kept.push_back(coded_counts(mb));
+    }
+}
+
+/// What the blocks of a macroblock count whose levels stand where its pattern sends them.
+fn coded_counts(mb: &Mb) -> Counts
+    requires { IsCoded mb.now }
+    ensures value { result ≡ count.counts_of mb.now }
+    ensures is { count.AreSmallCounts result }
+{
+    let pattern = mb.coded_pattern();
+    let luma = pattern.luma;
+    let ac = pattern.chroma == 2;
+    counts_where(
+        mb,
+        [
+            is_sent(luma, 0),
+            is_sent(luma, 1),
+            is_sent(luma, 2),
+            is_sent(luma, 3),
+        ],
+        ac,
+        ac,
+    )
+}
+
+/// Whether quarter q is sent under this pattern.
+fn is_sent(luma: u8, q: u8) -> bool
+    requires { q < 4 }
+    ensures { result ≡ (bit_at luma q == 1) }
+{
+    luma >> q & 1 == 1
+}
+
+/// What the blocks of a macroblock count, where false stands only for quarters, AC blocks of Cb and AC blocks of Cr
+/// without levels.
+#[tactic(auto, unfolding(crate::specs::LumaBlocks::sixteen))]
+fn counts_where(mb: &Mb, quarters: [bool; 4], cb: bool, cr: bool) -> Counts
+    requires quarters { (q : ℕ) → slice_index_or quarters q true ≡ false → total_coeff (quarter_of mb.now q) ≡ 0 }
+    requires cb { cb ≡ false → (n : ℕ) → total_coeff (count.chroma_block mb.now 0 n) ≡ 0 }
+    requires cr { cr ≡ false → (n : ℕ) → total_coeff (count.chroma_block mb.now 1 n) ≡ 0 }
+    ensures value { result ≡ count.counts_of mb.now }
+    ensures is { count.AreSmallCounts result }
+{
+    if mb.kind.is_i_pcm() {
+        return Counts {
+            luma: [16; 16],
+            cb: [16; 4],
+            cr: [16; 4],
+        };
+    }
+    Counts {
+        luma: luma_counts(mb, quarters),
+        cb: chroma_counts(&mb.chroma_ac[0], cb),
+        cr: chroma_counts(&mb.chroma_ac[1], cr),
     }
 }
 

@@ -12,6 +12,7 @@ use std::slice;
 pub trait OfMb: Copy {
     ghost use Rattle.std.specs.Prelude.{◌≡◌, [], ◌∷◌, ◌++◌};
     ghost use Rattle.circular_buffer.specs.Buffer.{buffer, keep_last};
+    ghost use Rattle.h264_types.specs.Valid.{IsCoded};
 
     ghost of: { Mb → Self };
 
@@ -25,6 +26,12 @@ pub trait OfMb: Copy {
 
     /// Appends what is kept of this macroblock. Where there is no room for it, the first one goes.
     fn keep(mb: &Mb, kept: &mut HeapCircularBuffer<Self>)
+        ensures kept { kept.new ≡ buffer (keep_last kept.old.capacity (kept.old.items ++ of mb.now ∷ [])) kept.old.capacity }
+        ensures is { Is (of mb.now) };
+
+    /// The same of a macroblock whose levels stand where its pattern sends them, which may need less of it.
+    fn keep_coded(mb: &Mb, kept: &mut HeapCircularBuffer<Self>)
+        requires { IsCoded mb.now }
         ensures kept { kept.new ≡ buffer (keep_last kept.old.capacity (kept.old.items ++ of mb.now ∷ [])) kept.old.capacity }
         ensures is { Is (of mb.now) };
 }
@@ -41,6 +48,10 @@ impl OfMb for Mb {
 
     fn keep(mb: &Mb, kept: &mut HeapCircularBuffer<Mb>) {
         kept.extend_from_slice(slice::from_ref(mb));
+    }
+
+    fn keep_coded(mb: &Mb, kept: &mut HeapCircularBuffer<Mb>) {
+        Mb::keep(mb, kept);
     }
 }
 
@@ -77,6 +88,7 @@ impl<K: OfMb> Rows<K> {
     ghost use Rattle.h264_types.specs.LastRows.{AreRows, IsHeld, IsNear, IsRecent, kept_at, two_rows, unit_of};
     ghost use Rattle.h264_types.specs.Slice as slice;
     ghost use Rattle.h264_types.specs.SliceShape.{IsSliceShape};
+    ghost use Rattle.h264_types.specs.Valid.{IsCoded};
 
     /// Nothing is kept yet, and there is memory for all that ever is.
     pub fn start(alloc: Global, shape: &SliceShape) -> Result<Self, Memory>
@@ -103,10 +115,33 @@ impl<K: OfMb> Rows<K> {
         ensures rows { (shape : SliceShape) (mbs : List Mb) → AreRows K.of shape self.old mbs → AreRows K.of shape self.new (mbs ++ mb.now ∷ []) }
         ensures value { self.new ≡ record self.old { count = self.old.count + 1; last = keep_last (two_rows self.old.width self.old.mbaff) (self.old.last ++ K.of mb.now ∷ []) } }
     {
+        let column = self.next_column();
         K::keep(mb, &mut self.kept);
         self.count += 1;
-        if !self.mbaff || self.count % 2 == 0 {
-            self.column = column_behind(self.column, self.width);
+        self.column = column;
+    }
+
+    /// Keeps the next macroblock of the picture, whose levels stand where its pattern sends them.
+    pub fn push_coded(&mut self, mb: &Mb)
+        requires room { self.old.first + self.old.count < self.old.width * self.old.height }
+        requires coded { IsCoded mb.now }
+        ensures rows { (shape : SliceShape) (mbs : List Mb) → AreRows K.of shape self.old mbs → AreRows K.of shape self.new (mbs ++ mb.now ∷ []) }
+        ensures value { self.new ≡ record self.old { count = self.old.count + 1; last = keep_last (two_rows self.old.width self.old.mbaff) (self.old.last ++ K.of mb.now ∷ []) } }
+    {
+        let column = self.next_column();
+        K::keep_coded(mb, &mut self.kept);
+        self.count += 1;
+        self.column = column;
+    }
+
+    /// The column of the macroblock behind the next one, in MBAFF of the pair that it belongs to.
+    fn next_column(&self) -> u32
+        ensures { result ≡ (unit_of self.now.mbaff self.now.first + unit_of self.now.mbaff (self.now.count + 1)) % self.now.width }
+    {
+        if self.mbaff && self.count % 2 == 0 {
+            self.column
+        } else {
+            column_behind(self.column, self.width)
         }
     }
 
