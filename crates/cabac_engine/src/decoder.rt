@@ -1,11 +1,11 @@
-ghost use Rattle.std.specs.Prelude.{◌≡◌, ◌<◌, ◌≤◌, List, [], ◌++◌, length, take, MatchOption, MatchResult, IfSome, IfNone, OnSome, Some, true, false};
+ghost use Rattle.std.specs.Prelude.{◌≡◌, ◌+◌, ◌<◌, ◌≤◌, List, [], ◌++◌, length, take, MatchOption, MatchResult, IfSome, IfNone, OnSome, Some, true, false};
 ghost use Rattle.bit_texts.specs.Bits.{number};
 ghost use Rattle.cabac_interval.specs.Interval.{context, bypass, terminate, doublings_of};
 ghost use Rattle.cabac_interval.specs.Tables.{next_p, next_mps};
 ghost use Rattle.cabac_engine.specs.Decoding.{Decoding, IsDecoding, Refills, Decodes, Narrows, HasDecoded};
 
 use crate::cell::Cell;
-use crate::doubling::doublings;
+use crate::doubling::{doublings, doublings_of_most};
 use crate::offset_bits::OffsetBits;
 use cabac_interval::range_lps;
 use exp_golomb::{BitSource, read_u};
@@ -121,7 +121,7 @@ impl<B: BitSource> Decoder<B> {
     {
         let lower = self.range - 2;
         if self.offset.is_below(lower) {
-            self.refill(lower)?;
+            self.refill(lower, doublings_of_most(lower))?;
             return Some(false);
         }
         self.offset.lower(lower);
@@ -134,7 +134,7 @@ impl<B: BitSource> Decoder<B> {
     fn narrow(&mut self, upper: u16) -> Option<bool>
         requires running { IsDecoding self.old }
         requires low { 2 ≤ upper }
-        requires high { upper ≤ 240 }
+        requires high { upper + 128 ≤ self.old.range }
         ensures answer { Narrows upper self.old result self.new }
         ensures kept { self.new.taken ++ self.new.left ≡ self.old.taken ++ self.old.left }
         ensures some { OnSome result (IsDecoding self.new) }
@@ -142,26 +142,26 @@ impl<B: BitSource> Decoder<B> {
     {
         let lower = self.range - upper;
         if self.offset.is_below(lower) {
-            self.refill(lower)?;
+            self.refill(lower, doublings_of_most(lower))?;
             return Some(true);
         }
         self.offset.lower(lower);
-        self.refill(upper)?;
+        self.refill(upper, doublings(upper))?;
         Some(false)
     }
 
-    /// Doubles a range until it is at least 256, and takes as many bits into the offset (9.3.3.2.2).
+    /// Doubles a range until it is at least 256, which is `count` times, and takes as many bits into the offset (9.3.3.2.2).
     #[inline(always)]
-    fn refill(&mut self, range: u16) -> Option<()>
-        requires some { 2 ≤ range }
+    fn refill(&mut self, range: u16, count: u8) -> Option<()>
+        requires some { 0 < range }
         requires nine_bits { range < 512 }
         requires within { self.old.offset < range }
+        requires count { count ≡ doublings_of range }
         ensures answer { MatchOption result
             ((length self.old.left < doublings_of range) × (self.new.range ≡ 0))
             (λ _. Refills range self.old.offset self.new.range self.new.offset self.old.left self.new.left) }
         ensures kept { self.new.taken ++ self.new.left ≡ self.old.taken ++ self.old.left }
     {
-        let count = doublings(range);
         if !self.offset.double(count) {
             self.range = 0;
             return None;

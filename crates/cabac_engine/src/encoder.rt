@@ -1,11 +1,11 @@
 ghost use Rattle.std.specs.Prelude.{◌≡◌, ◌+◌, ◌<◌, ◌≤◌, List, Bool, true, false, [], IfOk, OnOk, OnErr};
-ghost use Rattle.cabac_interval.specs.Interval.{Bin, context, bypass, terminate};
+ghost use Rattle.cabac_interval.specs.Interval.{Bin, context, bypass, terminate, doublings_of};
 ghost use Rattle.cabac_interval.specs.Tables.{next_p, next_mps};
 ghost use Rattle.cabac_engine.specs.Encoding.{IsEncoding, IsEnded, HasEncoded, Encodes, Closes};
 ghost use Rattle.cabac_engine.specs.LowBits.{Renormalises};
 
 use crate::cell::Cell;
-use crate::doubling::doublings;
+use crate::doubling::{doublings, doublings_of_most};
 use crate::low_bits::LowBits;
 use cabac_interval::range_lps;
 use exp_golomb::BitSink;
@@ -74,9 +74,9 @@ impl<B: BitSink> Encoder<B> {
         let lps = range_lps(cell.p, ((self.range >> 6) & 3) as u8);
         let lower = self.range - lps;
         if bit == cell.mps {
-            self.renormalise(0, lower)
+            self.renormalise(0, lower, doublings_of_most(lower))
         } else {
-            self.renormalise(lower, lps)
+            self.renormalise(lower, lps, doublings(lps))
         }
     }
 
@@ -115,24 +115,24 @@ impl<B: BitSink> Encoder<B> {
             self.low.register += u64::from(lower);
             self.range = 2;
         } else {
-            self.renormalise(0, lower)?;
+            self.renormalise(0, lower, doublings_of_most(lower))?;
         }
         Ok(())
     }
 
     /// Leaves the lowest numbers of the interval out, `skipped` of them, and takes `range` of those above, doubled until they
-    /// are at least 256 (9.3.4.3).
+    /// are at least 256, which is `count` times (9.3.4.3).
     #[inline(always)]
-    fn renormalise(&mut self, skipped: u16, range: u16) -> Result<(), Memory>
-        requires some { 2 ≤ range }
+    fn renormalise(&mut self, skipped: u16, range: u16, count: u8) -> Result<(), Memory>
+        requires some { 0 < range }
         requires open { IsEncoding self.old }
         requires within { skipped + range ≤ self.old.range }
+        requires count { count ≡ doublings_of range }
         ensures doubled { OnOk result (Renormalises skipped range self.old self.new) }
         ensures open { OnOk result (IsEncoding self.new) }
         ensures err { OnErr result (self.new.range ≡ 0) }
     {
         let register = self.low.register + u64::from(skipped);
-        let count = doublings(range);
         let register = register << count;
         let gathered = self.low.gathered + count;
         self.range = range << count;

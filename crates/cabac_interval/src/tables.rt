@@ -1,6 +1,6 @@
 //! The tables of the arithmetic code.
 
-ghost use Rattle.std.specs.Prelude.{◌≡◌, ◌<◌, ◌≤◌};
+ghost use Rattle.std.specs.Prelude.{◌≡◌, ◌+◌, ◌*◌, ◌<◌, ◌≤◌};
 ghost use Rattle.cabac_interval.specs.Tables as tables;
 
 // rangeTabLPS (Table 9-44): a row for each state, a column for each quarter of the range
@@ -79,7 +79,7 @@ const TRANS_LPS: [u8; 64] = [
 ];
 
 /// rangeTabLPS (9.3.3.2.1): how much of the range the least probable value takes, in state `p` of a context and
-/// quarter `quarter` of the range.
+/// quarter `quarter` of the range. It leaves 128 or more of each such range.
 #[inline(always)]
 pub fn range_lps(p: u8, quarter: u8) -> u16
     requires state { p < 64 }
@@ -87,6 +87,7 @@ pub fn range_lps(p: u8, quarter: u8) -> u16
     ensures value { result ≡ tables.range_lps p quarter }
     ensures low { 2 ≤ result }
     ensures high { result ≤ 240 }
+    ensures rest { result + 128 ≤ 64 * (quarter + 4) }
 {
     RANGE_LPS[p as usize][quarter as usize]
 }
