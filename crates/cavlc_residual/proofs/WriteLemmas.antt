@@ -14,6 +14,7 @@ use Rattle.code_tables.specs.TotalZeros.{total_zeros_list}
 use Rattle.cavlc_residual.specs.Coefficients.{magnitude, is_minus, next_suffix_length, coefficient_text, coefficients_text, AreCoefficients}
 use Rattle.cavlc_residual.specs.Block.{is_nonzero, leading_zeros, runs_of, runs_text, trailing_ones, first_suffix_length, first_extra, levels_text, parts_text, block_text, is_above, levels_above, is_beyond}
 use Rattle.cavlc_residual.specs.Parts.{AreLevels}
+use Rattle.cavlc_residual.proofs.RunLemmas.{zeros_none}
 use Rattle.cavlc_residual.proofs.ScanLemmas.{zero_is, AllNonzero, AllNonzero-filter, length_parts}
 use Rattle.cavlc_residual.proofs.BlockLemmas.{AllSmall, all_filter, all_reverse, all_parts, levels_are}
 
@@ -201,6 +202,14 @@ parts_written nc max z ls rs text behind old mid next last new r e first second 
     let P : ℕ → Type 0 = λ n. Appends last new (runs_text n rs) r in
     Appends-then old mid new _ _ r (Appended-same old mid text _ e first) (Appends-then mid next new (levels_text ls) _ r second
     (Appends-then next last new _ _ r (Appended-same next last behind _ d third) (subst P total final)))
+
+-- a block without levels has no bits behind its coeff_token
+pub empty_written : (nc : ℤ) (max : ℕ) (ls : List ℤ) (rs : List ℕ) (text old new : List Bool) → length ls ≡ 0 → length rs ≡ length ls → text ≡ word_at (coeff_token_list nc) (4 * length ls + trailing_ones ls) → Appended old new text → Appended old new (parts_text nc max ls rs)
+empty_written nc max [] [] text old new none pairs e written =
+    let behind : word_at (total_zeros_list max 0) 0 ≡ [] = sym (append-nil (word_at (total_zeros_list max 0) 0)) ∙ sym ((zeros_none max 0 [] (inl refl) (omega arith)).1) in
+    Appended-same old new text (parts_text nc max [] []) (e ∙ sym (ap (λ t. word_at (coeff_token_list nc) (4 * 0 + 0) ++ (t ++ [])) behind ∙ append-nil (word_at (coeff_token_list nc) (4 * 0 + 0)))) written
+empty_written nc max [] (r ∷ rs) text old new none pairs e written = absurd (omega (arith, pairs))
+empty_written nc max (l ∷ ls) rs text old new none pairs e written = absurd (omega (arith, none))
 
 -- the two parts of a slice that is split behind the trailing ones
 pub split_front : (n o : ℕ) (xs ls : List ℤ) → n ≡ o → xs ≡ ls → take n xs ≡ take o ls

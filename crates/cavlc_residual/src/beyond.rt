@@ -5,6 +5,7 @@ ghost use Rattle.cavlc_residual.specs.Block.{is_nonzero, is_above, levels_above 
 
 use crate::coefficients::{Coefficients, is_prefix_above, suffix_length_after};
 use crate::parts::{extra_first, suffix_length_first};
+use crate::runs::Runs;
 use crate::writing::{count_ones, separate};
 
 /// Whether some level needs a level_prefix above the bound.
@@ -56,6 +57,8 @@ pub fn is_beyond(levels: &[i32], bound: u8) -> bool
     requires within { bound ≤ 20 }
     ensures { result ≡ beyond_test bound levels.now }
 {
-    let (coefficients, _runs) = separate(levels);
+    let mut coefficients = Coefficients::new();
+    let mut runs = Runs::new();
+    separate(levels, &mut coefficients, &mut runs);
     levels_above(&coefficients, bound)
 }

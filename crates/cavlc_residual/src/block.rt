@@ -102,12 +102,16 @@ fn write_parts<B: BitSink>(
     requires max { max ≤ 16 }
     requires levels { AreLevels (array_vec_len levels.now, trailing_ones levels.now.items) 20 levels.now.items }
     requires zeros { array_vec_len levels.now + sum runs.now.items ≤ max }
+    requires pairs { array_vec_len runs.now ≡ array_vec_len levels.now }
     ensures { Appends (B.bits b.old) (B.bits b.new) (parts_text nc max levels.now.items runs.now.items) result }
 {
     let total = levels.len() as u8;
     let ones = count_ones(levels.as_slice());
     let zeros = count_zeros(runs);
     write_code(b, &coeff_token_table(nc), usize::from(4 * total + ones))?;
+    if total == 0 {
+        return Ok(());
+    }
     write_nonzero(b, levels, ones)?;
     write_code(b, &total_zeros_table(max, total), usize::from(zeros))?;
     write_runs(b, zeros, runs.as_slice())
@@ -128,7 +132,9 @@ pub fn write_levels<B: BitSink>(
     ensures unwritten { result ≡ Err BlockFault.Beyond → B.bits b.new ≡ B.bits b.old }
     ensures written { result ≢ Err BlockFault.Beyond → Appends (B.bits b.old) (B.bits b.new) (block_text nc levels.now) result }
 {
-    let (coefficients, runs) = separate(levels);
+    let mut coefficients = Coefficients::new();
+    let mut runs = Runs::new();
+    separate(levels, &mut coefficients, &mut runs);
     if levels_above(&coefficients, bound) {
         return Err(BlockFault::Beyond);
     }

@@ -1,4 +1,4 @@
-ghost use Rattle.std.specs.Prelude.{◌≡◌, ◌-◌, ◌<◌, ◌≤◌, true, length, map, take, filter, reverse, sum, pos, slice_index_or};
+ghost use Rattle.std.specs.Prelude.{◌≡◌, ◌-◌, ◌<◌, ◌≤◌, true, [], length, map, take, filter, reverse, sum, pos, slice_index_or};
 ghost use Rattle.std.specs.List.{AllByRecursion};
 ghost use Rattle.arrayvec.specs.ArrayVec.{array_vec_len};
 ghost use Rattle.bit_texts.specs.Texts.{Appends};
@@ -29,20 +29,20 @@ fn count_before_zeros(levels: &[i32]) -> usize
     0
 }
 
-/// The levels other than 0, from the highest frequency down, and the runs of zeros behind them.
-pub fn separate(levels: &[i32]) -> (Coefficients, Runs)
+/// Puts the levels other than 0, from the highest frequency down, and the runs of zeros behind them into two empty lists.
+pub fn separate(levels: &[i32], coefficients: &mut Coefficients, runs: &mut Runs)
     requires few { length levels.now ≤ 16 }
     requires small { AllByRecursion (λ l. magnitude l ≤ 65535) levels.now }
-    ensures levels { result.0.items ≡ filter is_nonzero (reverse levels.now) }
-    ensures runs { result.1.items ≡ runs_of (reverse levels.now) }
-    ensures pairs { array_vec_len result.1 ≡ array_vec_len result.0 }
-    ensures few { array_vec_len result.0 ≤ length levels.now }
+    requires empty { coefficients.old.items ≡ [] }
+    requires no_runs { runs.old.items ≡ [] }
+    ensures levels { coefficients.new.items ≡ filter is_nonzero (reverse levels.now) }
+    ensures runs { runs.new.items ≡ runs_of (reverse levels.now) }
+    ensures pairs { array_vec_len runs.new ≡ array_vec_len coefficients.new }
+    ensures few { array_vec_len coefficients.new ≤ length levels.now }
 {
-    let mut coefficients = Coefficients::new();
-    let mut runs = Runs::new();
     let count = count_before_zeros(levels);
     if count == 0 {
-        return (coefficients, runs);
+        return;
     }
     coefficients.push(levels[count - 1]);
     let mut zeros = 0u8;
@@ -59,7 +59,6 @@ pub fn separate(levels: &[i32]) -> (Coefficients, Runs)
         }
     }
     runs.push(zeros);
-    (coefficients, runs)
 }
 
 /// How many trailing ones there are.

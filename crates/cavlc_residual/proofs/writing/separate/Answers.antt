@@ -12,12 +12,12 @@ loop-left-init c =
     let within : count - 1 < length xs = omega (arith, some, known.within) in
     let small = small_element xs xs (count - 1) refl c.requires.small within in
     let next = down-next xs (count - 1) count x (omega (arith, some)) within refl in
-    let none = ap (λ t. length t) c.new-coefficients.ensures in
-    let none_runs = ap (λ t. length t) c.new-runs.ensures in
+    let none = ap (λ t. length t) c.requires.empty in
+    let none_runs = ap (λ t. length t) c.requires.no_runs in
     record {
       splits =
           splits-start _ _ _ _ _ _ x (known.last some) known.levels known.runs next
-          (c.push.ensures.items ∙ (ap (λ t. t ++ to_z w32 (of_z w32 x) ∷ []) c.new-coefficients.ensures ∙ ap (λ y. y ∷ []) (same_i32 x small))) c.new-runs.ensures refl;
+          (c.push.ensures.items ∙ (ap (λ t. t ++ to_z w32 (of_z w32 x) ∷ []) c.requires.empty ∙ ap (λ y. y ∷ []) (same_i32 x small))) c.requires.no_runs refl;
       count = omega (arith, c.push.ensures.len, none, within);
       pairs = omega (arith, c.push.ensures.len, none, none_runs);
     }
