@@ -3,12 +3,13 @@ use Rattle.std.proofs.Common.{◌≡◌, inl, inr, ℕ, ◌*◌, ◌<◌, ◌≤
 use Rattle.std.specs.Prelude.{All, ◌==◌, if◌then◌else◌}
 use Rattle.std.proofs.lemmas.List.Elements.{All-nil, All-cons, All-head, All-tail, All-weaker}
 use Rattle.h264_types.specs.Kind.{is_skip, is_i_16x16}
-use Rattle.h264_types.specs.Valid.{IsMacroblock}
+use Rattle.h264_types.specs.Valid.{IsMacroblock, IsCoded, is_kind_in}
+use Rattle.h264_types.specs.declared.slice_shape.SliceKind.TheVariants as slices
 use Rattle.h264_types.specs.declared.macroblock.Mb.{Mb}
 use Rattle.h264_types.specs.declared.macroblock.MbKind.{MbKind}
 use Rattle.h264_types.specs.declared.macroblock.MbKind.TheVariants.{Skip, Intra, P, B}
 use Rattle.h264_types.specs.declared.slice_shape.SliceShape.{SliceShape}
-use Rattle.h264_types.specs.Macroblock.{pattern_of}
+use Rattle.h264_types.specs.Macroblock.{pattern_of, no_elements}
 use Rattle.cavlc_mb_residual.specs.MacroblockResidual.{HasSmallLevels, IsResidual, is_beyond_mb}
 use Rattle.cavlc_mb_residual.proofs.BeyondLaws.{small_residual}
 use Rattle.cavlc_mb_residual.proofs.ResidualValid.{to_residual, residual_not_beyond}
@@ -50,6 +51,10 @@ valid_read shape mb mbaff is within = by (is_skip mb.kind) refl
     by : (b : Bool) → is_skip mb.kind ≡ b → IsRead shape mb
     by true skips = inr (skipped_of shape mb mbaff skips is)
     by false sent = inl (valid_sent shape (prefix_bound shape) mb mbaff sent within is)
+
+-- a skipped macroblock has no level, whatever the slice
+pub skipped_coded : (shape : SliceShape) (mb : Mb) → mb ≡ no_elements Skip → IsCoded mb
+skipped_coded shape mb e = let kind : is_kind_in slices.P Skip ≡ true = refl in (skipped_valid (record shape { kind = slices.P }) mb e kind).coded
 
 -- ---- levels
 

@@ -57,7 +57,7 @@ impl<B: BitSource> CavlcReader<B> {
             → Gave (place_in B.taken B.left) self.new shape pos all (done ++ mb.new ∷ []) }
     {
         let skipped = Mb::without_elements(MbKind::Skip);
-        self.rows.push(&skipped);
+        self.rows.push_coded(&skipped);
         self.run = Some(left);
         *mb = skipped;
     }
@@ -74,7 +74,7 @@ impl<B: BitSource> CavlcReader<B> {
         let Some(()) = read_macroblock(&mut self.bits, &self.shape, &around, bound, mb) else {
             return None;
         };
-        self.rows.push(mb);
+        self.rows.push_coded(mb);
         self.run = None;
         Some(())
     }

@@ -64,7 +64,7 @@ impl<B: BitSink> CavlcWriter<B> {
             → PutsBits shape done self.old.run (B.bits self.old.bits) (B.bits self.new.bits) mb.now result }
     {
         if mb.kind.is_skip() {
-            self.rows.push(mb);
+            self.rows.push_coded(mb);
             self.run += 1;
             return Ok(());
         }
@@ -75,7 +75,7 @@ impl<B: BitSink> CavlcWriter<B> {
         let Ok(()) = write_coded(&mut self.bits, &self.shape, &around, self.run, mb) else {
             return Err(PutFault::Memory);
         };
-        self.rows.push(mb);
+        self.rows.push_coded(mb);
         self.run = 0;
         Ok(())
     }
