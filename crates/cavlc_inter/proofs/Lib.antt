@@ -6,3 +6,4 @@ pub mod SubLaws
 pub mod InterChain
 pub mod Places
 pub mod InterValid
+pub mod FirstQuarters

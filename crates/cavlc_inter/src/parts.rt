@@ -14,17 +14,18 @@ pub struct Parts {
 
 impl Parts {
     /// The first quarter of the partition that covers quarter q.
+    #[inline(always)]
     pub fn first_quarter(&self, q: u8) -> u8
         requires { q < 4 }
         ensures { result ≡ first_of (partition_of self.now.kind) q }
     {
         let partition = self.kind.partition(q);
-        for r in 0..q {
-            if self.kind.partition(r) == partition {
-                return r;
-            }
+        // Rows are two quarters apart, and other partitions begin in the quarter of their own number.
+        if self.kind.partition(2) == 1 {
+            2 * partition
+        } else {
+            partition
         }
-        q
     }
 
     /// The first block of the sub-macroblock partition that has block k of a quarter whose sub_mb_type is `sub`.
@@ -42,6 +43,7 @@ impl Parts {
     }
 
     /// The first block of the part that has block n.
+    #[inline(always)]
     pub fn first_block(&self, n: u8) -> u8
         requires { n < 16 }
         ensures { result ≡ first_of (part_of self.now.kind self.now.subs) n }
@@ -55,6 +57,7 @@ impl Parts {
     }
 
     /// Whether a quarter is predicted from list 0 or 1 by what is sent.
+    #[inline(always)]
     pub fn uses(&self, list: u8, q: u8) -> bool
         requires { q < 4 }
         ensures { result ≡ inter.uses self.now list q }

@@ -1,17 +1,22 @@
-use Rattle.std.proofs.Common.{sym, ◌∙◌, arith}
+use Rattle.std.proofs.Common.{◌≡◌, ◌*◌, true, false, cond, sym, ap, ◌∙◌, arith}
+use Rattle.std.specs.Prelude.{◌==◌}
+use Rattle.std.proofs.lemmas.Bool.Decides.{nat_tests}
 use Rattle.h264_types.specs.Partition.{partition_of}
-use Rattle.cavlc_inter.proofs.Firsts.{found, not_yet, nowhere}
+use Rattle.cavlc_inter.proofs.FirstQuarters.{first_by_number}
 use Rattle.cavlc_inter.proofs.parts.Parts.first_quarter.Goals as goal
 
-pub returns-then-partition : goal.returns-then-partition
-returns-then-partition c =
-    sym (c.loop-r.invariant.search_goes_on ∙ found (partition_of c.args.self.now.kind) c.args.q c.loop-r.r c.loop-r-test.true (sym c.partition.ensures ∙ c.if-partition.true ∙ c.partition-partition.ensures))
+pub returns-then-partition-eq1 : goal.returns-then-partition-eq1
+returns-then-partition-eq1 c =
+    let kind = c.args.self.now.kind in
+    let q = c.args.q in
+    let rows : (partition_of kind 2 == 1) ≡ true = ap (λ p. p == 1) (sym c.partition.ensures ∙ c.if-partition-eq1.true) in
+    ap (λ p. 2 * p) c.partition-partition.ensures ∙ ap (λ b. cond b (2 * partition_of kind q) (partition_of kind q)) (sym rows) ∙ first_by_number kind q c.requires
 
-pub loop-r-preserved : goal.loop-r-preserved
-loop-r-preserved c = record {
-  inside = omega arith;
-  search_goes_on = c.loop-r.invariant.search_goes_on ∙ not_yet (partition_of c.args.self.now.kind) c.args.q c.loop-r.r c.loop-r-test.true (λ e. c.if-partition.false (c.partition.ensures ∙ e ∙ sym c.partition-partition.ensures));
-}
-
-pub returns : goal.returns
-returns c = sym (c.loop-r.invariant.search_goes_on ∙ nowhere (partition_of c.args.self.now.kind) c.args.q c.loop-r.r (omega arith) (omega arith))
+pub returns-else-partition-eq1 : goal.returns-else-partition-eq1
+returns-else-partition-eq1 c =
+    let kind = c.args.self.now.kind in
+    let q = c.args.q in
+    let is = c.partition.ensures in
+    let none = c.if-partition-eq1.false in
+    let rows : (c.partition.result == 1) ≡ false = grind (arith, nat_tests) in
+    c.partition-partition.ensures ∙ ap (λ b. cond b (2 * partition_of kind q) (partition_of kind q)) (sym rows ∙ ap (λ p. p == 1) is) ∙ first_by_number kind q c.requires
