@@ -1,7 +1,7 @@
 use Rattle.std.proofs.Common.{◌≡◌, ◌≢◌, ℕ, zero, suc, ◌+◌, ◌-◌, ◌*◌, ◌/◌, ◌%◌, ◌<◌, ◌≤◌, ℤ, pos, negsuc, Bool, true, false, ◌&&◌, cond, List, [], ◌∷◌, ◌++◌, length, take, drop, map, nat_lt, Option, Some, None, refl, sym, ap, ◌∙◌, subst, arith, ◌⊎◌, inl, inr, length-append}
 use Rattle.std.specs.Option.{option_map}
 use Rattle.std.specs.List.{AllByRecursion}
-use Rattle.std.proofs.lemmas.List.{length-map, length-take-le, take-append-drop, take_at, drop_at, length-drop}
+use Rattle.std.proofs.lemmas.List.{append-nil, length-map, length-take-le, take-append-drop, take_at, drop_at, length-drop}
 use Rattle.std.proofs.lemmas.Bool.{cases_Bool, lt-ltb, eqb-true, ne_eqb, false≢true}
 use Rattle.bit_texts.specs.Texts.{Reads, IsPrefixFree, BothAre, both_texts}
 use Rattle.bit_texts.proofs.Reading.{same_parts, Reads-then, Reads-stop, Reads-map, IsPrefixFree-then, IsPrefixFree-map}
@@ -210,3 +210,10 @@ levels_appended t o bound s e n h k a new bits mid front first length_is extra_i
 levels_appended t o bound s e n h k a new bits mid front first length_is extra_is (Some done) rest others =
     let P : List ℤ → Type 0 = λ ls. AreLevels (t, o) bound ls × (bits ≡ levels_text ls ++ rest) in
     subst P (ap (λ b. b ++ drop n new) (sym front) ∙ take-append-drop n new) (levels_read t o bound s e h k a bits mid first length_is extra_is (Some (drop n new)) rest others)
+
+-- there are no others
+pub all_ones_read : (t o bound : ℕ) → o ≤ t → o ≤ 3 → (a : List ℤ) (bits rest : List Bool) → t ≡ o → AreOnes o a × (bits ≡ map is_minus a ++ rest) → AreLevels (t, o) bound a × (bits ≡ levels_text a ++ rest)
+all_ones_read t o bound h k a bits rest e first =
+    let P : List ℤ → Type 0 = λ ls. AreLevels (t, o) bound ls × (bits ≡ levels_text ls ++ rest) in
+    let none : 0 ≡ t - o = omega (arith, e) in
+    subst P (append-nil a) (levels_read t o bound (first_suffix_length t o) (first_extra o) h k a bits rest first refl refl (Some []) rest ((none, tt), refl))

@@ -104,6 +104,7 @@ pub fn write_coefficient<B: BitSink>(
 }
 
 /// Reads `count` levels, the first of which has `extra` taken off its levelCode, and appends them to a list.
+#[inline(never)]
 pub fn read_coefficients<B: BitSource>(
     b: &mut B,
     count: u8,

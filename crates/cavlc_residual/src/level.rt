@@ -20,6 +20,7 @@ fn size_of_suffix(suffix_length: u8, prefix: u8) -> u8
 
 /// The number of bits of level_suffix behind a level_prefix from 14 on.
 #[cold]
+#[inline(never)]
 fn size_of_long_suffix(suffix_length: u8, prefix: u8) -> u8
     requires small { suffix_length ≤ 6 }
     requires within { prefix ≤ 20 }
@@ -70,6 +71,7 @@ pub fn code_of_level(suffix_length: u8, prefix: u8, suffix: u32) -> u32
 
 /// levelCode of a level_prefix from 15 on and a level_suffix.
 #[cold]
+#[inline(never)]
 fn code_of_escape(suffix_length: u8, prefix: u8, suffix: u32) -> u32
     requires small { suffix_length ≤ 6 }
     requires is_word { IsLevelWord suffix_length 20 (prefix, suffix) }

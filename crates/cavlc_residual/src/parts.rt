@@ -69,6 +69,9 @@ pub fn read_nonzero<B: BitSource>(
     ensures kept { B.taken b.new ++ B.left b.new ≡ B.taken b.old ++ B.left b.old }
 {
     read_ones(b, ones, levels)?;
+    if total == ones {
+        return Some(());
+    }
     let suffix_length = suffix_length_first(total, ones);
     read_coefficients(
         b,
