@@ -1,13 +1,13 @@
-ghost use Rattle.std.specs.Prelude.{◌≡◌, ◌≤◌, ◌++◌, length, option_map, IfSome};
+ghost use Rattle.std.specs.Prelude.{◌≡◌, ◌≤◌, ◌++◌, pos, length, replicate, option_map, IfSome};
 ghost use Rattle.bit_texts.specs.Texts.{Reads, Appends};
 ghost use Rattle.cavlc_residual.specs.Block.{IsShape, total_coeff};
 ghost use Rattle.cavlc_mb_residual.specs.Residual.{IsList, list_text};
 
-use cavlc_residual::{BlockFault, read_levels, write_levels};
+use cavlc_residual::{BlockFault, read_onto_zeros, write_levels};
 use exp_golomb::{BitSink, BitSource};
 use std::alloc::AllocError as Memory;
 
-/// Reads a list of levels where it is sent, and else puts levels 0. Answers TotalCoeff.
+/// Reads a list of levels where it is sent, into one of levels 0. Answers TotalCoeff.
 pub fn read_list<B: BitSource>(
     bits: &mut B,
     coded: bool,
@@ -17,15 +17,15 @@ pub fn read_list<B: BitSource>(
 ) -> Option<u8>
     requires shape { IsShape nc (length levels.old) }
     requires within { bound ≤ 20 }
+    requires clear { levels.old ≡ replicate (length levels.old) (pos 0) }
     ensures reads { Reads (IsList coded (length levels.old) bound) (list_text coded nc) (B.left bits.old) (option_map (λ _. levels.new) result) (B.left bits.new) }
     ensures total { IfSome result (λ total. total ≡ total_coeff levels.new) }
     ensures most { IfSome result (λ total. total ≤ 16) }
     ensures kept { B.taken bits.new ++ B.left bits.new ≡ B.taken bits.old ++ B.left bits.old }
 {
     if coded {
-        return read_levels(bits, nc, levels, bound);
+        return read_onto_zeros(bits, nc, levels, bound);
     }
-    levels.fill(0);
     Some(0)
 }
 

@@ -29,8 +29,8 @@ fn read_luma_dc<B: BitSource>(
     ensures reads { Reads (IsList is_16x16 16 bound) (layer.luma_dc_text around.now is_16x16) (B.left bits.old) (option_map (λ _. levels.new) result) (B.left bits.new) }
     ensures kept { B.taken bits.new ++ B.left bits.new ≡ B.taken bits.old ++ B.left bits.old }
 {
+    *levels = [0; 16];
     if !is_16x16 {
-        *levels = [0; 16];
         return Some(());
     }
     let nc = nc(&around.luma, &[], At::Luma4(0));
@@ -49,6 +49,7 @@ fn read_chroma_dc<B: BitSource>(
     ensures reads { Reads (IsList coded 4 bound) (list_text coded (negsuc 0)) (B.left bits.old) (option_map (λ _. levels.new) result) (B.left bits.new) }
     ensures kept { B.taken bits.new ++ B.left bits.new ≡ B.taken bits.old ++ B.left bits.old }
 {
+    *levels = [0; 4];
     read_list(bits, coded, -1, levels, bound)?;
     Some(())
 }

@@ -437,6 +437,16 @@ placed_total t o bound z size ls xs block runs rest are same read =
     total_of t o bound (size - (length xs + z)) ls read.0 block are (read.1.0.0 ∙ ap (length {A = ℤ}) same ∙ are.count)
     (read.2 ∙ ap (λ x. scan_of x read.0 ++ zeros (size - (length xs + z))) same)
 
+-- what is said of a list of the same length
+pub same_shape : (m nc : ℤ) (n k : ℕ) → m ≡ nc → k ≡ n → IsShape nc n → IsShape m k
+same_shape m nc n k e size shape = let P : ℕ → Type 0 = λ i. IsShape m i in subst P (sym size) (subst (λ t. IsShape t n) (sym e) shape)
+
+pub same_reads : (m nc : ℤ) (n k bound : ℕ) (bits : List Bool) (r : Option (List ℤ)) (rest : List Bool) → m ≡ nc → k ≡ n → Reads (IsBlock k bound) (block_text m) bits r rest → Reads (IsBlock n bound) (block_text nc) bits r rest
+same_reads m nc n k bound bits r rest e size read =
+    let P : ℕ → Type 0 = λ i. Reads (IsBlock i bound) (block_text nc) bits r rest in
+    let Q : ℤ → Type 0 = λ t. Reads (IsBlock k bound) (block_text t) bits r rest in
+    subst P size (subst Q e read)
+
 -- a block of levels 0 is all that a coeff_token with no levels says
 pub none_is_read : (m nc : ℤ) (max bound t o : ℕ) (levels : List ℤ) (bits rest : List Bool) → m ≡ nc → IsShape nc max → bound ≤ 20 → t ≡ 0 → IsToken m max (t, o) × (bits ≡ token_text m (t, o) ++ rest) → levels ≡ zeros max → IsBlock max bound levels × (bits ≡ block_text nc levels ++ rest)
 none_is_read m nc max bound t o levels bits rest e shape h none token all =

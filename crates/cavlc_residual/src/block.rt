@@ -1,4 +1,4 @@
-ghost use Rattle.std.specs.Prelude.{◌≡◌, ◌≢◌, ◌↔◌, true, ◌+◌, ◌≤◌, ◌++◌, length, sum, IfSome, option_map};
+ghost use Rattle.std.specs.Prelude.{◌≡◌, ◌≢◌, ◌↔◌, true, ◌+◌, ◌≤◌, ◌++◌, pos, length, sum, replicate, IfSome, option_map};
 ghost use Rattle.std.specs.List.{AllByRecursion};
 ghost use Rattle.arrayvec.specs.ArrayVec.{array_vec_len};
 ghost use Rattle.bit_texts.specs.Texts.{Reads, Appends};
@@ -28,9 +28,21 @@ pub fn read_levels<B: BitSource>(b: &mut B, nc: i8, levels: &mut [i32], bound: u
     ensures total { IfSome result (λ total. total ≡ total_coeff levels.new) }
     ensures kept { B.taken b.new ++ B.left b.new ≡ B.taken b.old ++ B.left b.old }
 {
+    levels.fill(0);
+    read_onto_zeros(b, nc, levels, bound)
+}
+
+/// Reads a block into a list of levels 0, as `read_levels` does.
+pub fn read_onto_zeros<B: BitSource>(b: &mut B, nc: i8, levels: &mut [i32], bound: u8) -> Option<u8>
+    requires shape { IsShape nc (length levels.old) }
+    requires within { bound ≤ 20 }
+    requires clear { levels.old ≡ replicate (length levels.old) (pos 0) }
+    ensures reads { Reads (IsBlock (length levels.old) bound) (block_text nc) (B.left b.old) (option_map (λ total. levels.new) result) (B.left b.new) }
+    ensures total { IfSome result (λ total. total ≡ total_coeff levels.new) }
+    ensures kept { B.taken b.new ++ B.left b.new ≡ B.taken b.old ++ B.left b.old }
+{
     let max = levels.len() as u8;
     let (total, ones) = read_token(b, nc, max)?;
-    levels.fill(0);
     if total == 0 {
         return Some(0);
     }
