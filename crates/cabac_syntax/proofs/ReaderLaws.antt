@@ -12,10 +12,30 @@ use Rattle.h264_types.specs.declared.macroblock.Mb.{Mb}
 use Rattle.h264_types.specs.declared.macroblock.MbKind.TheVariants.{Intra}
 use Rattle.h264_types.specs.declared.slice_shape.SliceShape.{SliceShape}
 use Rattle.slice_data.specs.Reading.{AreGiven, NoList}
+use Rattle.cabac_syntax.specs.declared.reader.Phase.{Phase}
+use Rattle.cabac_syntax.specs.declared.reader.Phase.TheVariants as phases
 use Rattle.cabac_syntax.specs.SliceData.{HasData, AreDataFrom}
 use Rattle.cabac_syntax.specs.Standing.{Knows, GoesOn, IsNext, IsBehind, IsSampled, Stands}
 use Rattle.cabac_syntax.proofs.StandsLaws.{HasRoom, here, next_here, stands_more}
 use Rattle.cabac_syntax.proofs.MacroblockLaws.{bins_behind, no_macroblock, know_behind, IsValid, read_valid, read_pcm, none_sampled}
+
+-- a phase has one coder
+coder_in : {B : Type 0} → InCoding → Phase B → InCoding
+coder_in other (phases.Running coder) = coder
+coder_in other (phases.Fresh contexts bits) = other
+coder_in other (phases.Ended bits) = other
+coder_in other phases.Over = other
+
+pub same_coder : {B : Type 0} (phase : Phase B) (d e : InCoding) → phase ≡ phases.Running d → phase ≡ phases.Running e → d ≡ e
+unfolding coder_in
+same_coder phase d e is other = ap (coder_in d) (sym is ∙ other)
+
+-- where no samples follow, none are put
+pub plain_sampled : (mb : Mb) → is_i_pcm mb.kind ≡ false → IsSampled mb mb
+plain_sampled mb other = (λ e. refl, λ pcm. absurd (no (sym other ∙ pcm)))
+  where
+    no : false ≡ true → ⊥
+    no e = absurd cc
 
 module _ (start : ℕ → ℕ × Bool) (kept shape : SliceShape) (rows : LastRows Mb) (pos : ℕ) (all : List Bool) (done : List Mb) where
   -- a reader that stands before a macroblock
@@ -80,3 +100,10 @@ module _ (start : ℕ → ℕ × Bool) (kept shape : SliceShape) (rows : LastRow
 pub none_fresh : (start : ℕ → ℕ × Bool) (shape : SliceShape) (pos place : ℕ) (all left : List Bool) → pos ≡ place → all ≡ left → NoList HasData (AreDataFrom false start) shape place left → NoList HasData (AreDataFrom false start) shape pos all
 none_fresh start shape pos place all left at is none =
     subst (λ (bits : List Bool). NoList HasData (AreDataFrom false start) shape pos bits) (sym is) (subst (λ (n : ℕ). NoList HasData (AreDataFrom false start) shape n left) (sym at) none)
+
+-- before the first macroblock nothing is done
+pub first_here : (start : ℕ → ℕ × Bool) (shape : SliceShape) (pos place : ℕ) (all left : List Bool) (done : List Mb) (d : InCoding) → done ≡ [] → pos ≡ place → all ≡ left
+    → Knows start shape place left (IsNext shape []) d → Knows start shape pos all (IsNext shape done) d
+first_here start shape pos place all left done d none at is k =
+    subst (λ (l : List Mb). Knows start shape pos all (IsNext shape l) d) (sym none)
+    (subst (λ (bits : List Bool). Knows start shape pos bits (IsNext shape []) d) (sym is) (subst (λ (n : ℕ). Knows start shape n left (IsNext shape []) d) (sym at) k))

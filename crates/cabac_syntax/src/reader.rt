@@ -36,8 +36,10 @@ pub struct CabacReader<B: BitSource> {
 
 impl<B: BitSource> CabacReader<B> {
     ghost use Rattle.std.specs.Prelude.{◌≡◌, ◌<◌, ◌+◌, ◌*◌, ◌≤◌, [], ℕ, Bool, List, true, false, nat_lt, length, IfOk, MatchBool};
+    ghost use Rattle.cabac_contexts.specs.Coders.{InCoding};
     ghost use Rattle.h264_types.specs.declared.macroblock.Mb.{Mb};
     ghost use Rattle.h264_types.specs.declared.slice_shape.SliceShape.{SliceShape};
+    ghost use Rattle.cabac_syntax.specs.declared.reader.Phase.TheVariants.{Running};
     ghost use Rattle.init_table.specs.declared.table.InitTable.{InitTable};
     ghost use Rattle.slice_data.specs.Reading.{NextGives, step_of};
     ghost use Rattle.cabac_syntax.specs.SliceData.{IsBuiltShape, HasData, IsData, first_states};
@@ -63,27 +65,36 @@ impl<B: BitSource> CabacReader<B> {
         })
     }
 
-    /// Reads the next macroblock, whose bins stand ahead.
+    /// Reads the next macroblock, whose bins stand ahead in the coder of the phase.
     #[inline(always)]
-    fn read_next(&mut self, coder: InCoder<B>, mb: &mut Mb) -> Result<bool, SliceFault>
-        requires { nat_lt coder.decoder.range 256 ≡ false }
-        ensures { (init : InitTable) (shape : SliceShape) (pos : ℕ) (all : List Bool) (done : List Mb)
-            → Stands self.old.shape self.old.rows shape done (Knows (first_states init shape) shape pos all (IsNext shape done) coder)
+    fn read_next(&mut self, mb: &mut Mb) -> Result<bool, SliceFault>
+        ensures { (coder : InCoding) (init : InitTable) (shape : SliceShape) (pos : ℕ) (all : List Bool) (done : List Mb)
+            → self.old.phase ≡ Running coder → Stands self.old.shape self.old.rows shape done (Knows (first_states init shape) shape pos all (IsNext shape done) coder)
             → NextGives HasData (IsData init) (λ reader. StandsFor B.taken B.left init reader.shape reader.rows reader.phase) (λ reader. left_in B.left reader.phase) self.new shape pos all done (step_of mb.new result) }
     {
         if !self.has_room() {
             return Err(SliceFault::NoReading);
         }
         let at = self.rows.count();
-        let mut coder = coder;
-        let Some(()) = read_macroblock(&mut coder, &self.shape, &self.rows, at, false, mb) else {
+        let Phase::Running(coder) = &mut self.phase else {
             return Err(SliceFault::NoReading);
         };
-        let Some(next) = read_behind(coder, mb) else {
+        let Some(()) = read_macroblock(coder, &self.shape, &self.rows, at, false, mb) else {
+            self.phase = Phase::Over;
             return Err(SliceFault::NoReading);
         };
+        if mb.kind.is_i_pcm() {
+            let Phase::Running(coder) = mem::replace(&mut self.phase, Phase::Over) else {
+                return Err(SliceFault::NoReading);
+            };
+            let Some(next) = read_behind(coder, mb) else {
+                return Err(SliceFault::NoReading);
+            };
+            self.rows.push(mb);
+            self.phase = Phase::Running(next);
+            return Ok(true);
+        }
         self.rows.push(mb);
-        self.phase = Phase::Running(next);
         Ok(true)
     }
 
@@ -103,6 +114,23 @@ impl<B: BitSource> CabacReader<B> {
         } else {
             Err(SliceFault::NoReading)
         }
+    }
+
+    /// Starts the first segment and reads the first macroblock; behind the end and a refusal there is none.
+    fn read_first_one(&mut self, mb: &mut Mb) -> Result<bool, SliceFault>
+        requires { (coder : InCoding) → self.old.phase ≡ Running coder → ⊥ }
+        ensures { (init : InitTable) (shape : SliceShape) (pos : ℕ) (all : List Bool) (done : List Mb)
+            → StandsFor B.taken B.left init self.old.shape self.old.rows self.old.phase shape pos all done
+            → NextGives HasData (IsData init) (λ reader. StandsFor B.taken B.left init reader.shape reader.rows reader.phase) (λ reader. left_in B.left reader.phase) self.new shape pos all done (step_of mb.new result) }
+    {
+        let Phase::Fresh(contexts, bits) = mem::replace(&mut self.phase, Phase::Over) else {
+            return Err(SliceFault::NoReading);
+        };
+        let Some(coder) = read_first(contexts, bits) else {
+            return Err(SliceFault::NoReading);
+        };
+        self.phase = Phase::Running(coder);
+        self.read_next(mb)
     }
 
     /// Whether the picture has room for a further macroblock.
@@ -129,21 +157,21 @@ impl<B: BitSource> SliceReader for CabacReader<B> {
     ghost left = { λ reader. left_in B.left reader.phase };
 
     fn next_into(&mut self, mb: &mut Mb) -> Result<bool, SliceFault> {
-        match mem::replace(&mut self.phase, Phase::Over) {
-            Phase::Fresh(contexts, bits) => match read_first(contexts, bits) {
-                Some(coder) => self.read_next(coder, mb),
-                None => Err(SliceFault::NoReading),
-            },
-            Phase::Running(coder) => {
-                let mut coder = coder;
-                match coder.end() {
-                    Some(false) => self.read_next(coder, mb),
-                    Some(true) => self.read_end(coder),
-                    None => Err(SliceFault::NoReading),
-                }
+        let Phase::Running(coder) = &mut self.phase else {
+            return self.read_first_one(mb);
+        };
+        match coder.end() {
+            Some(false) => self.read_next(mb),
+            Some(true) => {
+                let Phase::Running(coder) = mem::replace(&mut self.phase, Phase::Over) else {
+                    return Err(SliceFault::NoReading);
+                };
+                self.read_end(coder)
             }
-            Phase::Ended(_) => Err(SliceFault::NoReading),
-            Phase::Over => Err(SliceFault::NoReading),
+            None => {
+                self.phase = Phase::Over;
+                Err(SliceFault::NoReading)
+            }
         }
     }
 
