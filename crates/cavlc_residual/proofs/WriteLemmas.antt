@@ -105,6 +105,23 @@ without_zero ds more x small e next =
     let at : ds ≡ pos 0 ∷ more = next ∙ ap (λ y. y ∷ more) (zero_i32 x small e) in
     (ap (filter is_nonzero) at, ap runs_of at)
 
+-- so do four at the end
+one_less : (xs : List ℤ) (i k : ℕ) → k ≡ i + 1 → i < length xs → get_or xs i (pos 0) ≡ pos 0 → (filter is_nonzero (reverse (take k xs)) ≡ filter is_nonzero (reverse (take i xs))) × (runs_of (reverse (take k xs)) ≡ runs_of (reverse (take i xs)))
+one_less xs i k at h e =
+    let next : reverse (take k xs) ≡ pos 0 ∷ reverse (take i xs) = down-next xs i k (pos 0) at h (sym e) in
+    (ap (filter is_nonzero) next, ap runs_of next)
+
+pub four_less : (xs : List ℤ) (k : ℕ) → 4 ≤ k → k ≤ length xs → AllByRecursion (λ l. magnitude l ≤ 65535) xs
+    → (to_z w32 (of_z w32 (get_or xs (k - 1) (pos 0))) ≡ pos 0) × ((to_z w32 (of_z w32 (get_or xs (k - 2) (pos 0))) ≡ pos 0) × ((to_z w32 (of_z w32 (get_or xs (k - 3) (pos 0))) ≡ pos 0) × (to_z w32 (of_z w32 (get_or xs (k - 4) (pos 0))) ≡ pos 0)))
+    → (filter is_nonzero (reverse (take k xs)) ≡ filter is_nonzero (reverse (take (k - 4) xs))) × (runs_of (reverse (take k xs)) ≡ runs_of (reverse (take (k - 4) xs)))
+four_less xs k some within small none =
+    let zero_at : (i : ℕ) → i < length xs → to_z w32 (of_z w32 (get_or xs i (pos 0))) ≡ pos 0 → get_or xs i (pos 0) ≡ pos 0 = λ i h e. sym (same_i32 (get_or xs i (pos 0)) (all_at (λ l. magnitude l ≤ 65535) xs i small h)) ∙ e in
+    let a = one_less xs (k - 1) k (omega arith) (omega arith) (zero_at (k - 1) (omega arith) none.0) in
+    let b = one_less xs (k - 2) (k - 1) (omega arith) (omega arith) (zero_at (k - 2) (omega arith) none.1.0) in
+    let c = one_less xs (k - 3) (k - 2) (omega arith) (omega arith) (zero_at (k - 3) (omega arith) none.1.1.0) in
+    let d = one_less xs (k - 4) (k - 3) (omega arith) (omega arith) (zero_at (k - 4) (omega arith) none.1.1.1) in
+    (a.0 ∙ (b.0 ∙ (c.0 ∙ d.0)), a.1 ∙ (b.1 ∙ (c.1 ∙ d.1)))
+
 -- the levels ls with the runs rs behind all but the last, z zeros behind that, and then the rest
 pub record Splits (ds rest ls : List ℤ) (rs : List ℕ) (z : ℕ) : Type 0 where
   pub levels : filter is_nonzero ds ≡ ls ++ filter is_nonzero rest

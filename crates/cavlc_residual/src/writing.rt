@@ -10,6 +10,34 @@ use crate::runs::{Runs, write_run};
 use exp_golomb::BitSink;
 use std::alloc::AllocError as Memory;
 
+fn are_zeros(a: i32, b: i32, c: i32, d: i32) -> bool
+    ensures { result ≡ true → (a ≡ pos 0) × ((b ≡ pos 0) × ((c ≡ pos 0) × (d ≡ pos 0))) }
+{
+    a == 0 && b == 0 && c == 0 && d == 0
+}
+
+/// How many levels stand before the zeros at the end, which are taken off by fours.
+fn count_before_fours(levels: &[i32]) -> usize
+    requires { AllByRecursion (λ l. magnitude l ≤ 65535) levels.now }
+    ensures within { result ≤ length levels.now }
+    ensures levels { filter is_nonzero (reverse levels.now) ≡ filter is_nonzero (reverse (take result levels.now)) }
+    ensures runs { runs_of (reverse levels.now) ≡ runs_of (reverse (take result levels.now)) }
+{
+    let mut count = levels.len();
+    while count >= 4 {
+        if !are_zeros(
+            levels[count - 1],
+            levels[count - 2],
+            levels[count - 3],
+            levels[count - 4],
+        ) {
+            return count;
+        }
+        count -= 4;
+    }
+    count
+}
+
 /// How many levels stand before the zeros at the end.
 fn count_before_zeros(levels: &[i32]) -> usize
     requires { AllByRecursion (λ l. magnitude l ≤ 65535) levels.now }
@@ -18,7 +46,7 @@ fn count_before_zeros(levels: &[i32]) -> usize
     ensures runs { runs_of (reverse levels.now) ≡ runs_of (reverse (take result levels.now)) }
     ensures last { 0 < result → is_nonzero (slice_index_or levels.now (result - 1) (pos 0)) ≡ true }
 {
-    let mut count = levels.len();
+    let mut count = count_before_fours(levels);
     while count > 0 {
         let level = levels[count - 1];
         if level != 0 {

@@ -1,14 +1,10 @@
-use Rattle.std.proofs.Common.{◌<◌, ◌-◌, pos, length, filter, reverse, get_or, refl, sym, ap, ◌∙◌, arith}
-use Rattle.std.proofs.lemmas.List.{take_all}
-use Rattle.cavlc_residual.specs.Block.{is_nonzero, runs_of}
+use Rattle.std.proofs.Common.{◌<◌, ◌-◌, pos, length, get_or, refl, ◌∙◌, arith}
 use Rattle.cavlc_residual.proofs.WriteLemmas.{down-next, without_zero, nonzero_i32, small_element}
 use Rattle.cavlc_residual.proofs.writing.count_before_zeros.Goals as goal
 
 pub loop-count-init : goal.loop-count-init
 loop-count-init c =
-    let xs = c.args.levels.now in
-    let all = sym (take_all (length xs) xs (omega arith)) in
-    record { within = omega arith; same = ap (λ t. filter is_nonzero (reverse t)) all; same_runs = ap (λ t. runs_of (reverse t)) all }
+    let found = c.count_before_fours-count.ensures in record { within = found.within; same = found.levels; same_runs = found.runs }
 
 pub loop-count-preserved : goal.loop-count-preserved
 loop-count-preserved c =
