@@ -22,6 +22,8 @@ use Rattle.pcm_samples.specs.Alignment.{alignment}
 use Rattle.cabac_syntax.specs.SliceData.{Bin, Piece, coded, sampled, AreDataFrom, ArePieces, ones, Codes}
 use Rattle.cabac_syntax.specs.Standing.{GoesOn, IsNext, IsEnd}
 use Rattle.cabac_syntax.specs.Written.{Wrote, IsPut}
+use Rattle.cabac_syntax.specs.declared.writer.Phase.{Phase}
+use Rattle.cabac_syntax.specs.declared.writer.Phase.TheVariants as phases
 use Rattle.cabac_syntax.proofs.CodeParts.{bins_codes}
 use Rattle.cabac_syntax.proofs.EndLaws.{one_sampled}
 use Rattle.cabac_syntax.proofs.KnowsLaws.{next_behind, end_behind, next_first}
@@ -171,3 +173,13 @@ flag_taken start shape before done d e result some w step = on_ok result (λ tak
 -- two texts, one behind the other
 pub put_behind : (old mid new first second : List Bool) → Appended old mid first → Appended mid new second → new ≡ old ++ (first ++ second)
 put_behind old mid new first second a b = b.is ∙ ap (λ (l : List Bool). l ++ second) a.is ∙ append_assoc old first second
+
+-- a phase has one coder
+coder_in : {B : Type 0} → OutCoding → Phase B → OutCoding
+coder_in other (phases.Running coder) = coder
+coder_in other (phases.Fresh contexts bits) = other
+coder_in other phases.Over = other
+
+pub same_coder : {B : Type 0} (phase : Phase B) (d e : OutCoding) → phase ≡ phases.Running d → phase ≡ phases.Running e → d ≡ e
+unfolding coder_in
+same_coder phase d e is other = ap (coder_in d) (sym is ∙ other)

@@ -81,23 +81,52 @@ impl<B: BitSink> CabacWriter<B> {
         })
     }
 
-    /// Writes the next macroblock, with end_of_slice_flag before it where it isn't the first.
+    /// Writes the next macroblock into the coder of the phase, with end_of_slice_flag before it where it isn't the first.
     #[inline(always)]
+    fn put_behind(&mut self, mb: &Mb) -> Result<(), Memory>
+        requires { MayPut Cabac (λ init writer. WritesFor B.bits init writer.shape writer.rows writer.phase) self.old mb.now }
+        ensures { (init : InitTable) (shape : SliceShape) (before : List Bool) (done : List Mb)
+            → WritesFor B.bits init self.old.shape self.old.rows self.old.phase shape before done
+            → OnOk result (WritesFor B.bits init self.new.shape self.new.rows self.new.phase shape before (done ++ mb.now ∷ [])) }
+    {
+        let Phase::Running(coder) = &mut self.phase else {
+            return Err(Memory);
+        };
+        let at = self.rows.count();
+        let Ok(()) = write_flag(coder, at) else {
+            self.phase = Phase::Over;
+            return Err(Memory);
+        };
+        let Ok(()) = write_macroblock(coder, &self.shape, &self.rows, at, mb) else {
+            self.phase = Phase::Over;
+            return Err(Memory);
+        };
+        if mb.kind.is_i_pcm() {
+            let Phase::Running(coder) = mem::replace(&mut self.phase, Phase::Over) else {
+                return Err(Memory);
+            };
+            let next = write_behind(self.alloc, coder, mb)?;
+            self.rows.push(mb);
+            self.phase = Phase::Running(next);
+            return Ok(());
+        }
+        self.rows.push(mb);
+        Ok(())
+    }
+
+    /// Writes the next macroblock; before the first one the first segment is started.
     fn put_next(&mut self, mb: &Mb) -> Result<(), Memory>
         requires { MayPut Cabac (λ init writer. WritesFor B.bits init writer.shape writer.rows writer.phase) self.old mb.now }
         ensures { (init : InitTable) (shape : SliceShape) (before : List Bool) (done : List Mb)
             → WritesFor B.bits init self.old.shape self.old.rows self.old.phase shape before done
             → OnOk result (WritesFor B.bits init self.new.shape self.new.rows self.new.phase shape before (done ++ mb.now ∷ [])) }
     {
-        let phase = mem::replace(&mut self.phase, Phase::Over);
-        let mut coder = begun(self.alloc, phase)?;
-        let at = self.rows.count();
-        write_flag(&mut coder, at)?;
-        write_macroblock(&mut coder, &self.shape, &self.rows, at, mb)?;
-        let next = write_behind(self.alloc, coder, mb)?;
-        self.rows.push(mb);
-        self.phase = Phase::Running(next);
-        Ok(())
+        let Phase::Running(_) = &self.phase else {
+            let phase = mem::replace(&mut self.phase, Phase::Over);
+            self.phase = Phase::Running(begun(self.alloc, phase)?);
+            return self.put_behind(mb);
+        };
+        self.put_behind(mb)
     }
 }
 
