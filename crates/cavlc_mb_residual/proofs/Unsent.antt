@@ -1,10 +1,10 @@
 -- Lists that aren't sent: their levels are 0, and they have no text.
-use Rattle.std.proofs.Common.{◌≡◌, ◌⊎◌, ℕ, zero, suc, ◌-◌, ◌/◌, ◌%◌, ◌^◌, ◌==◌, ◌++◌, ℤ, pos, Bool, true, false, List, [], ◌∷◌, length, take, drop, refl, ap, sym, subst, ◌∙◌, arith, inl, inr}
-use Rattle.std.specs.Prelude.{replicate}
-use Rattle.bit_texts.specs.Texts.{Appended, AreTurns, turns_text}
+use Rattle.std.proofs.Common.{◌≡◌, ◌⊎◌, ℕ, zero, suc, ◌-◌, ◌/◌, ◌%◌, ◌^◌, ◌==◌, ◌++◌, ℤ, pos, Bool, true, false, List, [], ◌∷◌, length, take, drop, refl, ap, sym, subst, ◌∙◌, arith, inl, inr, ◌≤◌, cond, Result}
+use Rattle.std.specs.Prelude.{replicate, filter}
+use Rattle.bit_texts.specs.Texts.{Appended, Appends, AreTurns, turns_text}
 use Rattle.bit_texts.specs.Bits.{bit}
 use Rattle.std.proofs.lemmas.List.{append-nil, take-append-drop}
-use Rattle.cavlc_residual.specs.Block.{total_coeff}
+use Rattle.cavlc_residual.specs.Block.{is_nonzero, total_coeff, block_text}
 use Rattle.h264_types.specs.declared.macroblock.Mb.{Mb}
 use Rattle.cavlc_mb_residual.specs.declared.counts.Sides.{Sides}
 use Rattle.cavlc_mb_residual.specs.LumaBlocks.{sixteen, luma_blocks}
@@ -118,3 +118,22 @@ pub chroma_none_written : (sides : Sides) (coded : Bool) (blocks : List (List �
 chroma_none_written sides coded blocks bits e =
     let P : Bool → Type 0 = λ b. Appended bits bits (chroma_text sides b blocks) in
     subst P (sym e) record { is = sym (ap (λ t. bits ++ t) (chroma_text-none sides blocks) ∙ append-nil bits) }
+
+-- ---- lists that are sent without levels
+
+pub empty_written : {T E : Type 0} (coded : Bool) (m nc : ℤ) (levels : List ℤ) (old new : List Bool) (r : Result T E) → coded ≡ true → m ≡ nc → Appends old new (block_text m levels) r → Appends old new (list_text coded nc levels) r
+empty_written coded m nc levels old new r e same written =
+    let P : Bool → Type 0 = λ b. Appends old new (list_text b nc levels) r in
+    let Q : ℤ → Type 0 = λ n. Appends old new (block_text n levels) r in
+    subst P (sym e) (subst Q same written)
+
+count_of : (xs ys : List ℤ) → total_coeff xs ≤ total_coeff (xs ++ ys)
+count_of [] ys = omega arith
+count_of (x ∷ xs) ys = by (is_nonzero x) (count_of xs ys)
+  where
+    by : (b : Bool) → total_coeff xs ≤ total_coeff (xs ++ ys) → length (cond b (x ∷ filter is_nonzero xs) (filter is_nonzero xs)) ≤ length (cond b (x ∷ filter is_nonzero (xs ++ ys)) (filter is_nonzero (xs ++ ys)))
+    by true h = omega (arith, h)
+    by false h = h
+
+pub none_in_front : (n : ℕ) (xs : List ℤ) (total : ℕ) → total ≡ total_coeff xs → total ≡ 0 → total_coeff (take n xs) ≡ 0
+none_in_front n xs total e none = omega (arith, e, none, ap total_coeff (take-append-drop n xs), count_of (take n xs) (drop n xs))

@@ -5,7 +5,7 @@ ghost use Rattle.cavlc_mb_residual.specs.Counts.{AreSides, AreSmall};
 ghost use Rattle.cavlc_mb_residual.specs.Residual.{counted, IsChromaBlock, chroma_block_text, AreChromaBlocks, chroma_text};
 
 use crate::counts::{Sides, count_levels};
-use crate::lists::{read_list, write_list};
+use crate::lists::{read_list, write_counted};
 use crate::nc::nc;
 use arrayvec::ArrayVec;
 use exp_golomb::{BitSink, BitSource};
@@ -88,8 +88,9 @@ fn write_chroma_block<B: BitSink>(
 {
     let n = counts.len() as u8;
     let nc = nc(sides, counts.as_slice(), At::Chroma4(n));
-    counts.push(count_levels(block));
-    write_list(bits, coded, nc, block)
+    let total = count_levels(block);
+    counts.push(total);
+    write_counted(bits, coded, nc, total, block)
 }
 
 /// Appends the text of the AC blocks of a chroma component.

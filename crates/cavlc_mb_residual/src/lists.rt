@@ -3,7 +3,7 @@ ghost use Rattle.bit_texts.specs.Texts.{Reads, Appends};
 ghost use Rattle.cavlc_residual.specs.Block.{IsShape, total_coeff};
 ghost use Rattle.cavlc_mb_residual.specs.Residual.{IsList, list_text};
 
-use cavlc_residual::{BlockFault, read_onto_zeros, write_levels};
+use cavlc_residual::{BlockFault, read_onto_zeros, write_empty, write_levels};
 use exp_golomb::{BitSink, BitSource};
 use std::alloc::AllocError as Memory;
 
@@ -48,4 +48,24 @@ pub fn write_list<B: BitSink>(
         Err(BlockFault::Memory) => Err(Memory),
         Err(BlockFault::Beyond) => unreachable!(),
     }
+}
+
+/// Appends the text of a list of levels where it is sent, as `write_list` does. That of a list which has none, as `total`
+/// tells, is its coeff_token.
+pub fn write_counted<B: BitSink>(
+    bits: &mut B,
+    coded: bool,
+    nc: i8,
+    total: u8,
+    levels: &[i32],
+) -> Result<(), Memory>
+    requires shape { IsShape nc (length levels.now) }
+    requires list { IsList coded (length levels.now) 20 levels.now }
+    requires none { total ≡ 0 → total_coeff levels.now ≡ 0 }
+    ensures { Appends (B.bits bits.old) (B.bits bits.new) (list_text coded nc levels.now) result }
+{
+    if coded && total == 0 {
+        return write_empty(bits, nc, levels);
+    }
+    write_list(bits, coded, nc, levels)
 }

@@ -8,7 +8,7 @@ ghost use Rattle.cavlc_mb_residual.specs.Residual.{counted, IsLumaBlock, luma_bl
 ghost use Rattle.cavlc_mb_residual.specs.LumaBlocks.{sixteen, sent_block, luma_blocks};
 
 use crate::counts::{Sides, count_levels};
-use crate::lists::{read_list, write_list};
+use crate::lists::{read_list, write_counted};
 use crate::nc::nc;
 use crate::transform_8x8::{every_fourth, place_lists};
 use arrayvec::ArrayVec;
@@ -141,8 +141,9 @@ fn write_luma_list<B: BitSink>(
         return Ok(());
     }
     let nc = nc(sides, counts.as_slice(), At::Luma4(n));
-    counts.push(count_levels(block));
-    write_list(bits, coded, nc, &block[..usize::from(max)])
+    let total = count_levels(block);
+    counts.push(total);
+    write_counted(bits, coded, nc, total, &block[..usize::from(max)])
 }
 
 /// Appends the text of the luma block that follows those of `counts`.

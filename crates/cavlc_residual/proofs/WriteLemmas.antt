@@ -1,7 +1,7 @@
 use Rattle.std.proofs.Common.{◌≡◌, ℕ, zero, suc, ◌+◌, ◌-◌, ◌*◌, ◌<◌, ◌≤◌, ℤ, pos, negsuc, Bool, true, false, cond, List, [], ◌∷◌, ◌++◌, length, get_or, take, drop, map, sum, filter, reverse, refl, sym, ap, ◌∙◌, subst, arith, add-zero, append_assoc, ◌⊎◌, inl, inr, w32, to_z, of_z, Result, IsErr}
 use Rattle.std.specs.List.{AllByRecursion}
 use Rattle.std.proofs.lemmas.Int.{ints, to_z-of_z}
-use Rattle.std.proofs.lemmas.List.{append-nil, reverse-append, drop_more, take_more, length-drop, length-reverse, take-append-drop}
+use Rattle.std.proofs.lemmas.List.{append-nil, nil_from_length, reverse-append, drop_more, take_more, length-drop, length-reverse, take-append-drop}
 use Rattle.std.proofs.lemmas.List.Sums.{sum_by-cons}
 use Rattle.std.proofs.lemmas.Bool.{cases_Bool}
 use Rattle.cavlc_residual.proofs.Pieces.{AppendsFront, Appends-stop, Wrote-front}
@@ -12,10 +12,10 @@ use Rattle.code_tables.specs.CoeffToken.{coeff_token_list}
 use Rattle.code_tables.specs.RunBefore.{run_before_list}
 use Rattle.code_tables.specs.TotalZeros.{total_zeros_list}
 use Rattle.cavlc_residual.specs.Coefficients.{magnitude, is_minus, next_suffix_length, coefficient_text, coefficients_text, AreCoefficients}
-use Rattle.cavlc_residual.specs.Block.{is_nonzero, leading_zeros, runs_of, runs_text, trailing_ones, first_suffix_length, first_extra, levels_text, parts_text, block_text, is_above, levels_above, is_beyond}
+use Rattle.cavlc_residual.specs.Block.{is_nonzero, total_coeff, leading_zeros, runs_of, runs_text, trailing_ones, first_suffix_length, first_extra, levels_text, parts_text, block_text, is_above, levels_above, is_beyond}
 use Rattle.cavlc_residual.specs.Parts.{AreLevels}
 use Rattle.cavlc_residual.proofs.RunLemmas.{zeros_none}
-use Rattle.cavlc_residual.proofs.ScanLemmas.{zero_is, AllNonzero, AllNonzero-filter, length_parts}
+use Rattle.cavlc_residual.proofs.ScanLemmas.{zero_is, AllNonzero, AllNonzero-filter, length_parts, count-reverse, length-runs_of}
 use Rattle.cavlc_residual.proofs.BlockLemmas.{AllSmall, all_filter, all_reverse, all_parts, levels_are}
 
 -- ---- numbers of 32 bits
@@ -221,6 +221,16 @@ parts_written nc max z ls rs text behind old mid next last new r e first second 
     (Appends-then next last new _ _ r (Appended-same next last behind _ d third) (subst P total final)))
 
 -- a block without levels has no bits behind its coeff_token
+pub empty_text : (nc : ℤ) (levels : List ℤ) → total_coeff levels ≡ 0 → word_at (coeff_token_list nc) 0 ≡ block_text nc levels
+empty_text nc levels none =
+    let ds = reverse levels in
+    let count : length (filter is_nonzero ds) ≡ 0 = count-reverse levels ∙ none in
+    let no_levels : filter is_nonzero ds ≡ [] = nil_from_length (filter is_nonzero ds) count in
+    let no_runs : runs_of ds ≡ [] = nil_from_length (runs_of ds) (length-runs_of ds ∙ count) in
+    let behind : word_at (total_zeros_list (length levels) 0) 0 ≡ [] = sym (append-nil (word_at (total_zeros_list (length levels) 0) 0)) ∙ sym ((zeros_none (length levels) 0 [] (inl refl) (omega arith)).1) in
+    sym (ap (λ t. parts_text nc (length levels) t (runs_of ds)) no_levels ∙ (ap (parts_text nc (length levels) []) no_runs
+    ∙ (ap (λ t. word_at (coeff_token_list nc) (4 * 0 + 0) ++ (t ++ [])) behind ∙ append-nil (word_at (coeff_token_list nc) (4 * 0 + 0)))))
+
 pub empty_written : (nc : ℤ) (max : ℕ) (ls : List ℤ) (rs : List ℕ) (text old new : List Bool) → length ls ≡ 0 → length rs ≡ length ls → text ≡ word_at (coeff_token_list nc) (4 * length ls + trailing_ones ls) → Appended old new text → Appended old new (parts_text nc max ls rs)
 empty_written nc max [] [] text old new none pairs e written =
     let behind : word_at (total_zeros_list max 0) 0 ≡ [] = sym (append-nil (word_at (total_zeros_list max 0) 0)) ∙ sym ((zeros_none max 0 [] (inl refl) (omega arith)).1) in

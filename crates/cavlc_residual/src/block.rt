@@ -154,6 +154,14 @@ pub fn write_levels<B: BitSink>(
     Ok(())
 }
 
+/// Appends the text of a block whose levels are all 0.
+pub fn write_empty<B: BitSink>(b: &mut B, nc: i8, levels: &[i32]) -> Result<(), Memory>
+    requires { total_coeff levels.now ≡ 0 }
+    ensures { Appends (B.bits b.old) (B.bits b.new) (block_text nc levels.now) result }
+{
+    write_code(b, &coeff_token_table(nc), 0)
+}
+
 /// Appends the text of a block, as `write_levels` does.
 pub fn write_block<B: BitSink>(
     b: &mut B,

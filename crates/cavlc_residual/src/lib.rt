@@ -14,5 +14,5 @@ mod words;
 mod writing;
 
 pub use beyond::is_beyond;
-pub use block::{read_block, read_levels, read_onto_zeros, write_block, write_levels};
+pub use block::{read_block, read_levels, read_onto_zeros, write_block, write_empty, write_levels};
 pub use fault::BlockFault;
