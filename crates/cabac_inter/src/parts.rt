@@ -14,12 +14,12 @@ pub(crate) fn first_quarter(kind: MbKind, q: u8) -> u8
     ensures most { result ≤ q }
 {
     let partition = kind.partition(q);
-    for r in 0..q {
-        if kind.partition(r) == partition {
-            return r;
-        }
+    // Rows are two quarters apart, and other partitions begin in the quarter of their own number.
+    if kind.partition(2) == 1 {
+        2 * partition
+    } else {
+        partition
     }
-    q
 }
 
 /// The first block of the sub-macroblock partition that has block k of a quarter whose sub_mb_type is `sub`.
