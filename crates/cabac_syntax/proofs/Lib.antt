@@ -14,3 +14,4 @@ pub mod Columns
 pub mod Decisions
 pub mod CodesDecided
 pub mod Decided
+pub mod NormalLaws
