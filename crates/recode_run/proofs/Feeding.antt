@@ -29,73 +29,73 @@ written_of_judged o s items v written h e =
     let front = judged-front o [] s.units s.fault items v h in
     (front.0, front.1, items, front.2, front.3, front.4 written e)
 
-module _ {P : Type 0} (tried : P → Tries) where
+module _ {P : Type 0} (tried : P → Tries) (step : P → List ℕ → ℕ → P → Type 0) where
   -- ## What waits after a feed
 
   -- what was written and what waits are what is written for some first units
   abbrev pub FeedLeaves : Recoder P → Recoder P → List ℕ → Type 0
-  FeedLeaves r r1 piece = (fed : List ℕ) (written : List Written) → IsReady tried r (options_of tried r) fed written → IsWrittenOf (options_of tried r) (seen (fed ++ piece)) (written ++ waiting r1)
+  FeedLeaves r r1 piece = (fed : List ℕ) (written : List Written) → IsReady tried step r (options_of tried r) fed written → IsWrittenOf (options_of tried r) (seen (fed ++ piece)) (written ++ waiting r1)
 
-  leaves-ok : (r r1 : Recoder P) (piece : List ℕ) → options_of tried r1 ≡ options_of tried r → RecodesMore tried r r1 piece → FeedLeaves r r1 piece
+  leaves-ok : (r r1 : Recoder P) (piece : List ℕ) → options_of tried r1 ≡ options_of tried r → RecodesMore tried step r r1 piece → FeedLeaves r r1 piece
   leaves-ok r r1 piece options k = λ fed written h.
-      let next = k fed written h.recodes in
+      let next = k h.first fed written h.recodes in
       let s = seen (fed ++ piece) in
       let J : Options → Type 0 = λ o. Judges o [] s.units None next.items None in
       let W : Options → Type 0 = λ o. AreWritten o s.units next.items (written ++ waiting r1) in
       (s.units, [], next.items, sym (append-nil s.units), subst J options next.holds.judged, subst W options next.holds.written)
 
-  leaves-err : (r r1 : Recoder P) (piece : List ℕ) (e : Stopped) → RecodingStops tried r r1 piece e → FeedLeaves r r1 piece
+  leaves-err : (r r1 : Recoder P) (piece : List ℕ) (e : Stopped) → RecodingStops tried step r r1 piece e → FeedLeaves r r1 piece
   leaves-err r r1 piece (OutsideAt unit why) k = λ fed written h.
-      let stop = k fed written h.recodes in
+      let stop = k h.first fed written h.recodes in
       written_of_judged (options_of tried r) (seen (fed ++ piece)) stop.0 (Some (OutsideAt unit why)) (written ++ waiting r1) stop.1 stop.2
   leaves-err r r1 piece (StopAt case place) k = λ fed written h.
-      let stop = k fed written h.recodes in
+      let stop = k h.first fed written h.recodes in
       written_of_judged (options_of tried r) (seen (fed ++ piece)) stop.0 (Some (StopAt case place)) (written ++ waiting r1) stop.1 stop.2
   leaves-err r r1 piece NoMemory k = λ fed written h.
-      let some = k fed written h.recodes in
+      let some = k h.first fed written h.recodes in
       (some.0, some.1, some.2, some.3, some.4, some.5)
 
-  pub leaves : (r r1 : Recoder P) (piece : List ℕ) (res : Result (Unit {0}) Stopped) → options_of tried r1 ≡ options_of tried r → OnOk res (RecodesMore tried r r1 piece) → IfErr res (RecodingStops tried r r1 piece) → FeedLeaves r r1 piece
+  pub leaves : (r r1 : Recoder P) (piece : List ℕ) (res : Result (Unit {0}) Stopped) → options_of tried r1 ≡ options_of tried r → OnOk res (RecodesMore tried step r r1 piece) → IfErr res (RecodingStops tried step r r1 piece) → FeedLeaves r r1 piece
   leaves r r1 piece (Ok x) options h k = leaves-ok r r1 piece options h
   leaves r r1 piece (Err e) options h k = leaves-err r r1 piece e k
 
   -- ## The three ways of a piece
 
   -- fed and written
-  pub piece_done : (held held' : Option (List ℕ)) (r r1 r2 : Recoder P) (account account' : Account) (piece : List ℕ) → options_of tried r1 ≡ options_of tried r → options_of tried r2 ≡ options_of tried r1 → RecodesMore tried r r1 piece
+  pub piece_done : (held held' : Option (List ℕ)) (r r1 r2 : Recoder P) (account account' : Account) (piece : List ℕ) → options_of tried r1 ≡ options_of tried r → options_of tried r2 ≡ options_of tried r1 → RecodesMore tried step r r1 piece
       → Appends held held' (forms (waiting r1)) × (waiting r2 ≡ []) × Notes account account' (waiting r1)
-      → ((fed : List ℕ) (drained : List Written) → HasRecoded tried r1 fed drained → HasRecoded tried r2 fed (drained ++ waiting r1))
-      → (o : Options) → PieceDone tried o r r2 held held' account account' piece
+      → ((first : P) (fed : List ℕ) (drained : List Written) → HasRecoded tried step first r1 fed drained → HasRecoded tried step first r2 fed (drained ++ waiting r1))
+      → (o : Options) → PieceDone tried step o r r2 held held' account account' piece
   piece_done held held' r r1 r2 account account' piece p q k put go o fed written h = (
     waiting r1,
-    record { recodes = go (fed ++ piece) written (k fed written h.recodes); none = put.1; options = q ∙ p ∙ h.options },
+    record { first = h.first; recodes = go h.first (fed ++ piece) written (k h.first fed written h.recodes); none = put.1; options = q ∙ p ∙ h.options },
     put.0,
     put.2,
   )
 
   -- fed up to a stop, and written
-  pub piece_stops : (held held' : Option (List ℕ)) (r r1 : Recoder P) (piece : List ℕ) (e : Stopped) (status : Status) → status ≡ status_of_stop e → RecodingStops tried r r1 piece e → Appends held held' (forms (waiting r1))
-      → (o : Options) (fed : List ℕ) (written : List Written) → IsReady tried r o fed written → PieceEnds o held held' written (seen (fed ++ piece)) status
+  pub piece_stops : (held held' : Option (List ℕ)) (r r1 : Recoder P) (piece : List ℕ) (e : Stopped) (status : Status) → status ≡ status_of_stop e → RecodingStops tried step r r1 piece e → Appends held held' (forms (waiting r1))
+      → (o : Options) (fed : List ℕ) (written : List Written) → IsReady tried step r o fed written → PieceEnds o held held' written (seen (fed ++ piece)) status
   piece_stops held held' r r1 piece e status same k put o fed written h =
       let S : Status → Type 0 = PieceEnds (options_of tried r) held held' written (seen (fed ++ piece)) in
       let Q : Options → Type 0 = λ p. PieceEnds p held held' written (seen (fed ++ piece)) status in
       subst Q h.options (subst S (sym same) (by e k))
     where
-      by : (e : Stopped) → RecodingStops tried r r1 piece e → PieceEnds (options_of tried r) held held' written (seen (fed ++ piece)) (status_of_stop e)
-      by (OutsideAt unit why) k = let stop = k fed written h.recodes in (waiting r1, stop.0, stop.1, stop.2, put)
-      by (StopAt case place) k = let stop = k fed written h.recodes in (waiting r1, stop.0, stop.1, stop.2, put)
-      by NoMemory k = (waiting r1, forms (waiting r1), [], leaves-err r r1 piece NoMemory k fed written (record { recodes = h.recodes; none = h.none; options = refl }), put, sym (append-nil (forms (waiting r1))))
+      by : (e : Stopped) → RecodingStops tried step r r1 piece e → PieceEnds (options_of tried r) held held' written (seen (fed ++ piece)) (status_of_stop e)
+      by (OutsideAt unit why) k = let stop = k h.first fed written h.recodes in (waiting r1, stop.0, stop.1, stop.2, put)
+      by (StopAt case place) k = let stop = k h.first fed written h.recodes in (waiting r1, stop.0, stop.1, stop.2, put)
+      by NoMemory k = (waiting r1, forms (waiting r1), [], leaves-err r r1 piece NoMemory k fed written (record { first = h.first; recodes = h.recodes; none = h.none; options = refl }), put, sym (append-nil (forms (waiting r1))))
 
   -- fed, and written in part
   pub piece_part : (held held' : Option (List ℕ)) (r r1 : Recoder P) (piece : List ℕ) (f : SinkFault) (status : Status) → status ≡ status_of_fault f → FeedLeaves r r1 piece → TakesPart held held' (forms (waiting r1))
-      → (o : Options) (fed : List ℕ) (written : List Written) → IsReady tried r o fed written → PieceEnds o held held' written (seen (fed ++ piece)) status
+      → (o : Options) (fed : List ℕ) (written : List Written) → IsReady tried step r o fed written → PieceEnds o held held' written (seen (fed ++ piece)) status
   piece_part held held' r r1 piece f status same k put o fed written h =
       let S : Status → Type 0 = PieceEnds (options_of tried r) held held' written (seen (fed ++ piece)) in
       let Q : Options → Type 0 = λ p. PieceEnds p held held' written (seen (fed ++ piece)) status in
       subst Q h.options (subst S (sym same) (by f))
     where
       part : PutsPart (options_of tried r) held held' written (seen (fed ++ piece))
-      part = (waiting r1, take put.0 (forms (waiting r1)), drop put.0 (forms (waiting r1)), k fed written (record { recodes = h.recodes; none = h.none; options = refl }), put.1, sym (take-append-drop put.0 (forms (waiting r1))))
+      part = (waiting r1, take put.0 (forms (waiting r1)), drop put.0 (forms (waiting r1)), k fed written (record { first = h.first; recodes = h.recodes; none = h.none; options = refl }), put.1, sym (take-append-drop put.0 (forms (waiting r1))))
 
       by : (f : SinkFault) → PieceEnds (options_of tried r) held held' written (seen (fed ++ piece)) (status_of_fault f)
       by SinkFailed = part

@@ -56,8 +56,8 @@ pub record IsRead (o : Options) (fed : List ℕ) (written : List Written) : Type
   pub judged : Recodes o (seen fed) items None
   pub are : AreWritten o (seen fed).units items written
 
-pub read-ready : {P : Type 0} (tried : P → Tries) (r : Recoder P) (o : Options) (fed : List ℕ) (written : List Written) → IsReady tried r o fed written → IsRead o fed written
-read-ready tried r o fed written h =
+pub read-ready : {P : Type 0} (tried : P → Tries) (step : P → List ℕ → ℕ → P → Type 0) (r : Recoder P) (o : Options) (fed : List ℕ) (written : List Written) → IsReady tried step r o fed written → IsRead o fed written
+read-ready tried step r o fed written h =
     let k = h.recodes in
     let F : Option Why → Type 0 = λ f. Judges o [] (seen fed).units f k.items None in
     let J : Options → Type 0 = λ p. Judges p [] (seen fed).units None k.items None in
@@ -152,22 +152,22 @@ piece_ends o bound left left' held held1 held2 account fed last written all (Bad
 
 -- ## The turns
 
-module _ {P : Type 0} (tried : P → Tries) where
+module _ {P : Type 0} (tried : P → Tries) (step : P → List ℕ → ℕ → P → Type 0) where
   -- some bytes were read and fed, and what is written for their units was put and counted
   pub record Reads (o : Options) (left left' held held' : Option (List ℕ)) (r : Recoder P) (account : Account) (taken : ℕ) : Type 0 where
     pub fed : List ℕ
     pub written : List Written
-    pub ready : IsReady tried r o fed written
+    pub ready : IsReady tried step r o fed written
     pub consumed : Consumes left left' fed
     pub put : Appends held held' (forms written)
     pub counted : account ≡ account_of (length fed) (map (λ w. w.event) written)
     pub count : taken ≡ length fed
 
-  pub reads-none : (o : Options) (left held : Option (List ℕ)) (r : Recoder P) (account : Account) → IsReady tried r o [] [] → account ≡ account_of 0 [] → Reads o left left held held r account 0
+  pub reads-none : (o : Options) (left held : Option (List ℕ)) (r : Recoder P) (account : Account) → IsReady tried step r o [] [] → account ≡ account_of 0 [] → Reads o left left held held r account 0
   reads-none o left held r account h e = record { fed = []; written = []; ready = h; consumed = consumes-same left; put = appends-same held; counted = e; count = refl }
 
   pub reads-more : (o : Options) (left left1 left2 held held1 held2 : Option (List ℕ)) (r r' : Recoder P) (account between account' : Account) (taken n : ℕ) (piece : List ℕ) → Reads o left left1 held held1 r account taken → Consumes left1 left2 piece → n ≡ length piece
-      → ((read : ℕ) (events : List Event) → account ≡ account_of read events → between ≡ account_of (read + n) events) → PieceDone tried o r r' held1 held2 between account' piece
+      → ((read : ℕ) (events : List Event) → account ≡ account_of read events → between ≡ account_of (read + n) events) → PieceDone tried step o r r' held1 held2 between account' piece
       → Reads o left left2 held held2 r' account' (taken + n)
   reads-more o left left1 left2 held held1 held2 r r' account between account' taken n piece h k e counted go =
       let next = go h.fed h.written h.ready in
@@ -186,37 +186,37 @@ module _ {P : Type 0} (tried : P → Tries) where
 
   pub read_fault : (o : Options) (left left1 left2 held held1 : Option (List ℕ)) (r : Recoder P) (account : Account) (taken bound : ℕ) → Reads o left left1 held held1 r account taken → taken ≤ bound → Keeps left1 left2 → RunEnds o bound left left2 held held1 account ReadFault
   read_fault o left left1 left2 held held1 r account taken bound h le k =
-      let read = read-ready tried r o h.fed h.written h.ready in
+      let read = read-ready tried step r o h.fed h.written h.ready in
       (h.fed, read.items, consumes-keeps left left1 left2 h.fed h.consumed k, omega (arith, h.count), read.judged, gains o (seen h.fed).units read.items held held1 h.written read.are h.put)
 
   pub too_much : (o : Options) (left left1 left2 held held1 : Option (List ℕ)) (r : Recoder P) (account : Account) (taken bound : ℕ) (piece : List ℕ) → Reads o left left1 held held1 r account taken → taken ≡ bound → Consumes left1 left2 piece → length piece ≡ 1
       → RunEnds o bound left left2 held held1 account TooMuch
   too_much o left left1 left2 held held1 r account taken bound piece h e k one =
-      let read = read-ready tried r o h.fed h.written h.ready in
+      let read = read-ready tried step r o h.fed h.written h.ready in
       (h.fed, piece, read.items, consumes-more left left1 left2 h.fed piece h.consumed k, sym h.count ∙ e, one, read.judged, gains o (seen h.fed).units read.items held held1 h.written read.are h.put)
 
   -- a piece ended the run
   pub step_ends : (o : Options) (left left1 left2 held held1 held2 : Option (List ℕ)) (r : Recoder P) (account account' : Account) (taken n bound : ℕ) (piece : List ℕ) (status : Status) → Reads o left left1 held held1 r account taken → Consumes left1 left2 piece → n ≡ length piece → n ≤ 65536
-      → taken + n ≤ bound → ((fed : List ℕ) (written : List Written) → IsReady tried r o fed written → PieceEnds o held1 held2 written (seen (fed ++ piece)) status) → RunEnds o bound left left2 held held2 account' status
+      → taken + n ≤ bound → ((fed : List ℕ) (written : List Written) → IsReady tried step r o fed written → PieceEnds o held1 held2 written (seen (fed ++ piece)) status) → RunEnds o bound left left2 held held2 account' status
   step_ends o left left1 left2 held held1 held2 r account account' taken n bound piece status h k e short le go =
-      piece_ends o bound left left2 held held1 held2 account' h.fed piece h.written (seen (h.fed ++ piece)) status (read-ready tried r o h.fed h.written h.ready) (consumes-more left left1 left2 h.fed piece h.consumed k) (omega (arith, e))
+      piece_ends o bound left left2 held held1 held2 account' h.fed piece h.written (seen (h.fed ++ piece)) status (read-ready tried step r o h.fed h.written h.ready) (consumes-more left left1 left2 h.fed piece h.consumed k) (omega (arith, e))
       (omega (arith, h.count, e, length-append h.fed piece)) (inl refl) h.put (go h.fed h.written h.ready)
 
   -- the end of the input ended the run
   pub finish_ends : (o : Options) (left left1 left2 held held1 held2 : Option (List ℕ)) (r : Recoder P) (account account' : Account) (taken bound : ℕ) (status : Status) → Reads o left left1 held held1 r account taken → taken ≤ bound → Consumes left1 left2 [] → IsAtEnd left2
-      → ((fed : List ℕ) (written : List Written) → IsReady tried r o fed written → PieceEnds o held1 held2 written (seen (fed ++ 0 ∷ 0 ∷ 0 ∷ [])) status) → RunEnds o bound left left2 held held2 account' status
+      → ((fed : List ℕ) (written : List Written) → IsReady tried step r o fed written → PieceEnds o held1 held2 written (seen (fed ++ 0 ∷ 0 ∷ 0 ∷ [])) status) → RunEnds o bound left left2 held held2 account' status
   unfolding seen_whole
   finish_ends o left left1 left2 held held1 held2 r account account' taken bound status h le k end go =
-      piece_ends o bound left left2 held held1 held2 account' h.fed [] h.written (seen (h.fed ++ 0 ∷ 0 ∷ 0 ∷ [])) status (read-ready tried r o h.fed h.written h.ready) (consumes-more left left1 left2 h.fed [] h.consumed k) (omega arith)
+      piece_ends o bound left left2 held held1 held2 account' h.fed [] h.written (seen (h.fed ++ 0 ∷ 0 ∷ 0 ∷ [])) status (read-ready tried step r o h.fed h.written h.ready) (consumes-more left left1 left2 h.fed [] h.consumed k) (omega arith)
       (omega (arith, h.count, ap length (append-nil h.fed))) (inr (ap (λ v. seen (v ++ 0 ∷ 0 ∷ 0 ∷ [])) (sym (append-nil h.fed)), end)) h.put (go h.fed h.written h.ready)
 
   pub finished : (o : Options) (left left1 left2 held held1 held2 : Option (List ℕ)) (r r' : Recoder P) (account account' : Account) (taken bound : ℕ) → Reads o left left1 held held1 r account taken → taken ≤ bound → Consumes left1 left2 [] → IsAtEnd left2
-      → PieceDone tried o r r' held1 held2 account account' (0 ∷ 0 ∷ 0 ∷ []) → RunEnds o bound left left2 held held2 account' Done
+      → PieceDone tried step o r r' held1 held2 account account' (0 ∷ 0 ∷ 0 ∷ []) → RunEnds o bound left left2 held held2 account' Done
   unfolding seen_whole
   finished o left left1 left2 held held1 held2 r r' account account' taken bound h le k end go =
       let next = go h.fed h.written h.ready in
       let all : List Written = h.written ++ next.0 in
-      let read = read-ready tried r' o (h.fed ++ 0 ∷ 0 ∷ 0 ∷ []) all next.1 in
+      let read = read-ready tried step r' o (h.fed ++ 0 ∷ 0 ∷ 0 ∷ []) all next.1 in
       let events = map (λ (w : Written). w.event) h.written in (
         h.fed,
         read.items,

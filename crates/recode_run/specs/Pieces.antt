@@ -20,8 +20,9 @@ use Rattle.recode_run.specs.Account.{account_of}
 use Rattle.stream_recoder.specs.Recoder.{HasRecoded, waiting, options_of}
 
 -- the recoder was fed these bytes, they have no verdict yet, and all that is written for their units was drained
-pub record IsReady {P : Type 0} (tried : P → Tries) (r : Recoder P) (o : Options) (fed : List ℕ) (written : List Written) : Type 0 where
-  pub recodes : HasRecoded tried r fed written
+pub record IsReady {P : Type 0} (tried : P → Tries) (step : P → List ℕ → ℕ → P → Type 0) (r : Recoder P) (o : Options) (fed : List ℕ) (written : List Written) : Type 0 where
+  pub first : P
+  pub recodes : HasRecoded tried step first r fed written
   pub none : waiting r ≡ []
   pub options : options_of tried r ≡ o
 
@@ -52,9 +53,9 @@ PieceEnds o held held' written s Memory = PutsPart o held held' written s
 PieceEnds o held held' written s _ = ⊥
 
 -- a piece was fed and all of its units were written
-abbrev pub PieceDone : {P : Type 0} → (P → Tries) → Options → Recoder P → Recoder P → Option (List ℕ) → Option (List ℕ) → Account → Account → List ℕ → Type 0
-PieceDone tried o old new held held' account account' piece = (fed : List ℕ) (written : List Written) → IsReady tried old o fed written →
-    (more : List Written) × IsReady tried new o (fed ++ piece) (written ++ more) × Appends held held' (forms more) × Notes account account' more
+abbrev pub PieceDone : {P : Type 0} → (P → Tries) → (P → List ℕ → ℕ → P → Type 0) → Options → Recoder P → Recoder P → Option (List ℕ) → Option (List ℕ) → Account → Account → List ℕ → Type 0
+PieceDone tried step o old new held held' account account' piece = (fed : List ℕ) (written : List Written) → IsReady tried step old o fed written →
+    (more : List Written) × IsReady tried step new o (fed ++ piece) (written ++ more) × Appends held held' (forms more) × Notes account account' more
 
 abbrev pub status_of_fault : SinkFault → Status
 status_of_fault SinkFailed = WriteFault

@@ -146,7 +146,7 @@ fn recode_all<P: InitPick, S: Source, K: Sink>(
     bound: u64,
     account: &mut Account,
 ) -> Status
-    requires ready { HasRecoded P.tried recoder.old [] [] × (waiting recoder.old ≡ []) }
+    requires ready { ((first : P) × HasRecoded P.tried P.step first recoder.old [] []) × (waiting recoder.old ≡ []) }
     requires bounded { bound ≤ 2 ^ 40 }
     requires none { account.old ≡ account_of 0 [] }
     ensures ends { RunEnds (options_of P.tried recoder.old) bound (S.left src.old) (S.left src.new) (K.held out.old) (K.held out.new) account.new result }
@@ -188,8 +188,8 @@ fn step<P: InitPick, K: Sink>(
     out: &mut K,
     account: &mut Account,
 ) -> Result<(), Status>
-    ensures ok { OnOk result ((o : _) → PieceDone P.tried o recoder.old recoder.new (K.held out.old) (K.held out.new) account.old account.new piece.now) }
-    ensures err { IfErr result (λ status. (o : _) (fed : List ℕ) (written : List Written) → IsReady P.tried recoder.old o fed written → PieceEnds o (K.held out.old) (K.held out.new) written (seen (fed ++ piece.now)) status) }
+    ensures ok { OnOk result ((o : _) → PieceDone P.tried P.step o recoder.old recoder.new (K.held out.old) (K.held out.new) account.old account.new piece.now) }
+    ensures err { IfErr result (λ status. (o : _) (fed : List ℕ) (written : List Written) → IsReady P.tried P.step recoder.old o fed written → PieceEnds o (K.held out.old) (K.held out.new) written (seen (fed ++ piece.now)) status) }
     ensures cause { IfErr result (λ status. status ≡ Status.WriteFault → Rose (K.faults out.old) (K.faults out.new)) }
     ensures later { K.faults out.old ≤ K.faults out.new }
 {
@@ -210,7 +210,7 @@ fn put_waiting<P: InitPick, K: Sink>(
     account: &mut Account,
 ) -> Result<(), SinkFault>
     ensures ok { OnOk result (Appends (K.held out.old) (K.held out.new) (forms (waiting recoder.old)) × (waiting recoder.new ≡ []) × Notes account.old account.new (waiting recoder.old)) }
-    ensures recodes { OnOk result ((fed : List ℕ) (drained : List Written) → HasRecoded P.tried recoder.old fed drained → HasRecoded P.tried recoder.new fed (drained ++ waiting recoder.old)) }
+    ensures recodes { OnOk result ((first : P) (fed : List ℕ) (drained : List Written) → HasRecoded P.tried P.step first recoder.old fed drained → HasRecoded P.tried P.step first recoder.new fed (drained ++ waiting recoder.old)) }
     ensures err { OnErr result (TakesPart (K.held out.old) (K.held out.new) (forms (waiting recoder.old))) }
     ensures cause { HasSinkCause (K.faults out.old) (K.faults out.new) result }
     ensures options { options_of P.tried recoder.new ≡ options_of P.tried recoder.old }

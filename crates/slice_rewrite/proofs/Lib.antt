@@ -9,4 +9,6 @@ pub mod Splitting
 pub mod ComesBack
 pub mod Headline
 pub mod SliceForms
+pub mod Picked
+pub mod AsItStands
 pub mod Quantisers

@@ -47,6 +47,9 @@ use Rattle.slice_rewrite.proofs.Normal.{front_written}
 use Rattle.slice_rewrite.proofs.Slices.{built_layer, names-once, header-once, header-found, built_under, written_built, written_column}
 use Rattle.slice_rewrite.proofs.Stops.{none_emptied, stop_of_both}
 
+pub subst2 : {X Y : Type 0} (P : X → Y → Type 0) {x u : X} {y v : Y} → x ≡ u → y ≡ v → P x y → P u v
+subst2 P {x} {u} {y} {v} e f p = let Q : _ → Type 0 = λ z. P z v in subst Q e (subst (P x) f p)
+
 -- ## The header
 
 pub header_fault : (to : Layer) (sets : SetMaps) (header : ℕ) (bits rest : List Bool) (fault : HeaderFault) → ReadsHeader sets header (Err fault) bits rest → IsNotOpened to sets header bits (fault_of_header fault)
@@ -197,7 +200,7 @@ stops_of_both to shape other mbs o = stops_from_both to shape other 0 mbs o.same
 pub under_named : (P : Active → Type 0) (sets : SetMaps) (n : ℕ) (found : Active) → Names sets n found → P found → (active : Active) → Names sets n active → P active
 under_named P sets n found names p active others = subst P (names-once sets n found active names others) p
 
-all_snoc : (P : Mb → Type 0) (done : List Mb) (mb : Mb) → All P done → P mb → All P (done ++ mb ∷ [])
+pub all_snoc : (P : Mb → Type 0) (done : List Mb) (mb : Mb) → All P done → P mb → All P (done ++ mb ∷ [])
 all_snoc P [] mb is p zero d below = p
 all_snoc P [] mb is p (suc k) d below = absurd (omega (arith, below))
 all_snoc P (x ∷ done) mb is p zero d below = is zero d (omega arith)

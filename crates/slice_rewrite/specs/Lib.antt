@@ -2,8 +2,10 @@ pub mod Options
 pub mod Layers
 pub mod Items
 pub mod Written
+pub mod Picks
 pub mod Stops
 pub mod Verdict
 pub mod View
 pub mod SliceForms
+pub mod Standing
 pub mod Faults

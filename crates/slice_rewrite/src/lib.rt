@@ -3,6 +3,7 @@
 //! written for it and what two streams have in common stand in specs/, over whole lists; `laws` has what follows.
 #![tactic(auto)]
 
+mod choice;
 mod fault;
 mod kinds;
 pub mod laws;
@@ -13,6 +14,7 @@ mod put;
 mod reading;
 mod recoding;
 mod slice;
+mod standing;
 mod writing;
 mod written_shape;
 

@@ -33,7 +33,7 @@ pub fn put_written<W: SliceWriter>(writer: &mut W, mb: &mut Mb) -> Result<Option
 }
 
 /// Whether a macroblock in normal form is written as P_8x8ref0, which CABAC hasn't (Table 7-13).
-fn is_ref0_in(to: Layer, mb: &Mb) -> bool
+pub(crate) fn is_ref0_in(to: Layer, mb: &Mb) -> bool
     ensures { result ≡ (has_ref0 to && is_ref0 mb.now) }
 {
     matches!(to, Layer::Cavlc) && is_p_8x8ref0(mb)

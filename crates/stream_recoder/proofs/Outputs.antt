@@ -13,7 +13,8 @@ use Rattle.slice_rewrite.specs.Items.{Item}
 use Rattle.slice_rewrite.specs.Verdict.{unit_number, Judges, Recodes}
 use Rattle.slice_rewrite.specs.Written.{AreForms, IsOutput}
 use Rattle.slice_rewrite.proofs.Judging.{one-verdict, verdict-stays}
-use Rattle.stream_recoder.specs.Written.{Written, AreWritten, forms}
+use Rattle.slice_rewrite.specs.declared.pick.Tries.{Tries}
+use Rattle.stream_recoder.specs.Written.{Written, AreWritten, GoesAlong, GoesOn, forms}
 
 forms_are : (o : Options) (us : List (List ℕ)) (items : List Item) (written : List Written) → AreWritten o us items written → AreForms o us items (map (λ w. w.form) written)
 forms_are o [] items written h = ap (map (λ w. w.form)) h
@@ -58,6 +59,16 @@ written-more o before [] more (i ∷ is) rest written others h k l = absurd h
 written-more o before (u ∷ us) more [] rest written others h k l = absurd h
 written-more o before (u ∷ us) more (i ∷ is) rest [] others h k l = absurd k
 written-more o before (u ∷ us) more (i ∷ is) rest (w ∷ written) others h k l = (k.0, written-more o (i ∷ before) us more is rest written others h.2 k.1 l)
+
+-- the pick goes on with one unit more
+pub goes-more : {P : Type 0} (tried : P → Tries) (step : P → List ℕ → ℕ → P → Type 0) (o : Options) (before : List Item) (us : List (List ℕ)) (is : List Item) (written : List Written) (i : Item) (w : Written) (old between new : P) → Judges o before us None is None → AreWritten o us is written
+    → GoesAlong tried step o is written old between → GoesOn tried step o i w.form between new → GoesAlong tried step o (is ++ i ∷ []) (written ++ w ∷ []) old new
+goes-more tried step o before [] [] [] i w old between new h k g n = let G : _ → Type 0 = λ p. GoesOn tried step o i w.form p new in (new, subst G g n, refl)
+goes-more tried step o before [] [] (x ∷ written) i w old between new h k g n = absurd (let e : x ∷ written ≡ [] = k in cc)
+goes-more tried step o before [] (j ∷ is) written i w old between new h k g n = absurd h
+goes-more tried step o before (u ∷ us) [] written i w old between new h k g n = absurd h
+goes-more tried step o before (u ∷ us) (j ∷ is) [] i w old between new h k g n = absurd k
+goes-more tried step o before (u ∷ us) (j ∷ is) (x ∷ written) i w old between new h k g n = (g.0, g.1, goes-more tried step o (j ∷ before) us is written i w g.0 between new h.2 k.1 g.2 n)
 
 none_written : (o : Options) (us : List (List ℕ)) (written : List Written) → written ≡ [] → AreWritten o us [] written
 none_written o [] written e = e

@@ -1,8 +1,8 @@
 -- What is written for one unit.
-use Rattle.std.proofs.Common.{◌≡◌, ◌∙◌, sym, ap, subst, refl, inl, inr, ℕ, ◌%◌, List, [], ◌∷◌, drop, length, Bool, true, false, Option, Some, None, Err, ◌-◌, append-nil}
-use Rattle.std.specs.Prelude.{is_some}
+use Rattle.std.proofs.Common.{◌≡◌, ◌∙◌, sym, ap, subst, refl, inl, inr, ℕ, List, [], ◌∷◌, drop, length, Bool, true, false, Option, Some, None, Err, ◌-◌, append-nil}
+use Rattle.std.specs.Prelude.{IfErr, Ok, Result, is_some}
 use Rattle.bit_texts.specs.Bits.{bits_of, bytes_of}
-use Rattle.exp_golomb.specs.EmulationPrevention.{IsEscape, HasEscape, zeros_at_end, escaped, payload_of}
+use Rattle.exp_golomb.specs.EmulationPrevention.{IsEscape, escaped, payload_of}
 use Rattle.exp_golomb.proofs.Escapes.{payload_of-escaped, escaped-payload_of}
 use Rattle.stream_taps.specs.declared.event.Event.{Event}
 use Rattle.h264_types.specs.declared.fault.Why.{Why}
@@ -14,25 +14,31 @@ use Rattle.param_sets.specs.PictureParameterSet.{PpsText, ReadsPps}
 use Rattle.param_sets.specs.Refusal.{OutsideProfile, AboveLimit}
 use Rattle.param_sets.specs.SequenceParameterSet.{SpsText, ReadsSps}
 use Rattle.param_sets.specs.Sets.{SetMaps, sps_put, pps_put}
-use Rattle.param_sets.specs.TrailingBits.{IsPayload}
 use Rattle.param_sets.specs.declared.fault.SetFault.{SetFault}
 use Rattle.param_sets.specs.declared.fault.SetFault.TheVariants.{NoReading, Profile, Limit, Memory}
 use Rattle.param_sets.specs.declared.pps.Pps.{Pps}
 use Rattle.param_sets.specs.declared.sps.Sps.{Sps}
 use Rattle.init_table.specs.declared.table.InitTable.{InitTable}
-use Rattle.slice_rewrite.specs.Options.{Options, whole_run}
+use Rattle.slice_rewrite.specs.Options.{Options, options, whole_run}
 use Rattle.slice_rewrite.specs.declared.kinds.UnitKind.{UnitKind}
 use Rattle.slice_rewrite.specs.declared.kinds.UnitKind.TheVariants.{Carried as IsCarried, Slice as IsSlice, Sps as IsSps, Pps as IsPps}
-use Rattle.slice_rewrite.specs.Items.{header_of, unit_type, kind_of, Carried, TheSps, ThePps, TheSlice}
+use Rattle.slice_rewrite.specs.Items.{header_of, unit_type, kind_of, Item, Carried, TheSps, ThePps, TheSlice, IsItem}
+use Rattle.slice_rewrite.specs.Picks.{IsPickedForm as IsPickedSlice}
+use Rattle.slice_rewrite.specs.declared.opening.OpenSlice.{OpenSlice}
+use Rattle.slice_rewrite.specs.declared.pick.Tries.{Tries}
+use Rattle.slice_rewrite.specs.declared.plan.Plan.{Plan}
 use Rattle.slice_rewrite.specs.Verdict.{IsRefusedUnit, IsRefusedEscape, Refuses, number_stop, has_pps}
 use Rattle.slice_rewrite.specs.Written.{with_start_code, sps_unit, pps_unit, pps_units, slice_in, IsSliceBits}
+use Rattle.slice_rewrite.proofs.SliceForms.{written_under_own}
+use Rattle.slice_rewrite.proofs.Picked.{picks_under_own}
 use Rattle.slice_rewrite.proofs.Slices.{slice-nal}
-use Rattle.stream_recoder.specs.Written.{Written, IsWritten}
+use Rattle.stream_recoder.specs.Written.{Written, IsWritten, GoesOn}
+use Rattle.stream_recoder.specs.Recoder.{PickStops, stopped_at}
 use Rattle.slice_rewrite.specs.declared.fault.RewriteFault.{RewriteFault}
 use Rattle.slice_rewrite.specs.declared.fault.RewriteFault.TheVariants as slices
 use Rattle.slice_rewrite.specs.Faults.{fault_of_escape}
-use Rattle.stream_recoder.specs.Forms.{IsForm, IsRefusal, set_fault}
-use Rattle.slice_rewrite.specs.SliceForms.{IsSliceForm, IsSliceRefusal}
+use Rattle.stream_recoder.specs.Forms.{IsForm, IsPickedForm, IsPickBehind, IsRefusal, set_fault}
+use Rattle.slice_rewrite.specs.SliceForms.{IsOpened, IsSliceForm, IsSliceRefusal}
 
 abbrev pub written_with : List ℕ → Event → Written
 written_with form event = record { form = form; event = event }
@@ -131,7 +137,7 @@ slice_refused o sets unit payload (slices.Outside why) kind is r = refuses_as o.
 slice_refused o sets unit payload (slices.Stop case k) kind is r = (TheSlice r.0, (payload, (kind, is), r.1), λ before. r.2)
 slice_refused o sets unit payload slices.Memory kind is r = tt
 
-pub slice_written : (o : Options) (sets : SetMaps) (unit payload form written : List ℕ) (number macroblocks : ℕ) → kind_of unit ≡ IsSlice → IsEscape payload (drop 1 unit)
+abbrev pub slice_written : (o : Options) (sets : SetMaps) (unit payload form written : List ℕ) (number macroblocks : ℕ) → kind_of unit ≡ IsSlice → IsEscape payload (drop 1 unit)
     → (f : IsSliceForm (whole_run o.to o.init o.tries) number sets (header_of unit) (bits_of payload) written macroblocks) → IsSliceBits o.init (slice_in o.to f.idc f.slice) (bits_of written)
     → form ≡ with_start_code (header_of unit ∷ escaped (bytes_of (bits_of written))) → IsForm o sets sets unit form macroblocks
 slice_written o sets unit payload form written number macroblocks kind is f own bytes =
@@ -154,8 +160,48 @@ written_form o sets after unit form macroblocks event f is = record { form = f.b
 
 -- ## Payloads of sets
 
-pub has_escape : (payload : List ℕ) (bits : List Bool) → IsPayload bits → bits_of payload ≡ bits → HasEscape (bytes_of (bits_of payload))
-has_escape payload bits is e = ap (λ z. z % 2) (ap (λ x. zeros_at_end (bytes_of x)) e ∙ is.no_zeros_at_end)
-
 pub unit_bytes : (form payload : List ℕ) (bits : List Bool) (header : ℕ) → form ≡ with_start_code (header ∷ escaped (bytes_of (bits_of payload))) → bits_of payload ≡ bits → form ≡ with_start_code (header ∷ escaped (bytes_of bits))
 unit_bytes form payload bits header e same = e ∙ ap (λ p. with_start_code (header ∷ escaped (bytes_of p))) same
+
+-- ## The pick
+
+-- what holds of each fault holds of that of a result
+pub err_all : {T E : Type 0} (r : Result T E) (Q : E → Type 0) → ((e : E) → Q e) → IfErr r Q
+err_all (Ok x) Q all = tt
+err_all (Err e) Q all = all e
+
+module _ {P : Type 0} (tried : P → Tries) (step : P → List ℕ → ℕ → P → Type 0) where
+  -- with a slice it goes on
+  pub slice_goes : (plan : Plan) (init : InitTable) (sets : SetMaps) (header : ℕ) (bits : List Bool) (s : OpenSlice) (payload : List ℕ) (macroblocks : ℕ) (old new : P) (form : List ℕ) → IsOpened plan.to sets header bits s
+      → (f : IsPickedSlice tried step plan.to init s.header.pic_parameter_set_id sets header bits old payload macroblocks new) → form ≡ with_start_code (header ∷ escaped (bytes_of (bits_of payload)))
+      → GoesOn tried step (options plan init (tried old)) (TheSlice f.form.slice) form old new
+  slice_goes plan init sets header bits s payload macroblocks old new form r f is =
+      let nal = slice-nal plan.to init sets header bits f.form.slice f.form.read in (
+        f.form.idc,
+        header ∷ escaped (bytes_of (bits_of payload)),
+        f.form.tried,
+        (bits_of payload, written_under_own (whole_run plan.to init (tried old)) sets header bits s payload macroblocks r f.form, ap (λ h. h ∷ escaped (bytes_of (bits_of payload))) (sym nal)),
+        is,
+        picks_under_own tried step plan.to init sets header bits s payload macroblocks old new r f,
+      )
+
+  -- with another unit it stays
+  pub others_stay : (o : Options) (sets after : SetMaps) (unit form : List ℕ) (macroblocks : ℕ) (pick : P) → (kind_of unit ≡ IsSlice → ⊥) → IsForm o sets after unit form macroblocks → IsPickedForm tried step o sets after unit form macroblocks pick pick
+  others_stay o sets after unit form macroblocks pick other f = record { form_is = f; pick = by f.item f.read }
+    where
+      by : (i : Item) → IsItem o.to o.init sets unit i → GoesOn tried step o i form pick pick
+      by (Carried u) is = refl
+      by (TheSps header sps) is = refl
+      by (ThePps header pps) is = refl
+      by (TheSlice s) is = absurd (other is.1.0)
+
+  pub stays_behind : (o : Options) (fault : RewriteFault) (pick : P) → IsPickBehind tried step o fault pick pick
+  stays_behind o (slices.Outside why) pick = refl
+  stays_behind o (slices.Stop case k) pick = refl
+  stays_behind o slices.Memory pick = (Carried [], [], refl)
+
+  -- how a fault stops, with the pick
+  pub pick_stops : (o : Options) (n : ℕ) (fault : RewriteFault) (old new : P) → IsPickBehind tried step o fault old new → PickStops tried step o (stopped_at n fault) old new
+  pick_stops o n (slices.Outside why) old new h = h
+  pick_stops o n (slices.Stop case k) old new h = h
+  pick_stops o n slices.Memory old new h = h

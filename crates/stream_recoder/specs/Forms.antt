@@ -11,6 +11,8 @@ use Rattle.slice_rewrite.specs.Options.{Options}
 use Rattle.slice_rewrite.specs.Items.{Item, put, IsItem}
 use Rattle.slice_rewrite.specs.Verdict.{Refuses, stop_of}
 use Rattle.slice_rewrite.specs.Written.{IsFormOf, macroblocks_of}
+use Rattle.slice_rewrite.specs.declared.pick.Tries.{Tries}
+use Rattle.stream_recoder.specs.Written.{GoesOn, GoesAtMost}
 
 -- the unit is read as some item, these bytes are written for it, and the sets behind it stand
 pub record IsForm (o : Options) (sets after : SetMaps) (unit form : List ℕ) (macroblocks : ℕ) : Type 0 where
@@ -20,6 +22,17 @@ pub record IsForm (o : Options) (sets after : SetMaps) (unit form : List ℕ) (m
   pub sets_are : after ≡ put item sets
   pub count : macroblocks ≡ macroblocks_of item
   pub bytes : IsFormOf o unit item form
+
+-- the same, and the pick goes on
+pub record IsPickedForm {P : Type 0} (tried : P → Tries) (step : P → List ℕ → ℕ → P → Type 0) (o : Options) (sets after : SetMaps) (unit form : List ℕ) (macroblocks : ℕ) (old new : P) : Type 0 where
+  pub form_is : IsForm o sets after unit form macroblocks
+  pub pick : GoesOn tried step o form_is.item form old new
+
+-- behind a refusal the pick is as before, but where memory was wanting it may have gone on
+abbrev pub IsPickBehind : {P : Type 0} → (P → Tries) → (P → List ℕ → ℕ → P → Type 0) → Options → RewriteFault → P → P → Type 0
+IsPickBehind tried step o (Outside why) old new = new ≡ old
+IsPickBehind tried step o (Stop case k) old new = new ≡ old
+IsPickBehind tried step o Memory old new = GoesAtMost tried step o old new
 
 -- the unit has no item, or one that can't be written, whatever stands before it, or there is no memory
 abbrev pub IsRefusal : Options → SetMaps → List ℕ → RewriteFault → Type 0

@@ -36,12 +36,12 @@ pub struct Recoder<P> {
 }
 
 impl<P: InitPick> Recoder<P> {
-    ghost use Rattle.stream_recoder.specs.Recoder.{waiting, waiting_count, options_of, IsStopped, HasRecoded, RecodesMore, RecodingStops, Drains, IsKept, Adds, IsRefusedBy, stopped_at, TakesAll, TakingStops};
+    ghost use Rattle.stream_recoder.specs.Recoder.{waiting, waiting_count, options_of, IsStopped, HasRecoded, RecodesMore, RecodingStops, Drains, IsKept, Adds, IsRefusedBy, PickStops, stopped_at, TakesAll, TakingStops};
 
     /// A recoder at the beginning of a stream, for a run that is not partial.
     pub fn new(alloc: Global, plan: Plan, init: InitTable, pick: P) -> Result<Recoder<P>, Memory>
         requires { plan.range ≡ None }
-        ensures { IfOk result (λ recoder. HasRecoded P.tried recoder [] [] × (options_of P.tried recoder ≡ options plan init (P.tried pick)) × (recoder.pick ≡ pick)) }
+        ensures { IfOk result (λ recoder. HasRecoded P.tried P.step pick recoder [] [] × (options_of P.tried recoder ≡ options plan init (P.tried pick)) × (recoder.pick ≡ pick)) }
     {
         Ok(Recoder {
             alloc,
@@ -59,12 +59,11 @@ impl<P: InitPick> Recoder<P> {
     /// Takes the next piece of the stream. What was written before a stop can still be drained, and the same stop comes
     /// again from then on.
     pub fn feed(&mut self, piece: &[u8]) -> Result<(), Stopped>
-        ensures ok { OnOk result (RecodesMore P.tried self.old self.new piece.now) }
-        ensures err { IfErr result (RecodingStops P.tried self.old self.new piece.now) }
+        ensures ok { OnOk result (RecodesMore P.tried P.step self.old self.new piece.now) }
+        ensures err { IfErr result (RecodingStops P.tried P.step self.old self.new piece.now) }
         ensures again { (stopped : _) → IsStopped self.old stopped → (result ≡ Err stopped) × (self.new ≡ self.old) }
         ensures stops { IfErr result (IsStopped self.new) }
         ensures options { options_of P.tried self.new ≡ options_of P.tried self.old }
-        ensures pick { self.new.pick ≡ self.old.pick }
     {
         if let Some(stopped) = self.stopped {
             return Err(stopped);
@@ -81,12 +80,11 @@ impl<P: InitPick> Recoder<P> {
 
     /// Takes the end of the stream, which is three more zero bytes: the last unit ends there.
     pub fn finish(&mut self) -> Result<(), Stopped>
-        ensures ok { OnOk result (RecodesMore P.tried self.old self.new (0 ∷ 0 ∷ 0 ∷ [])) }
-        ensures err { IfErr result (RecodingStops P.tried self.old self.new (0 ∷ 0 ∷ 0 ∷ [])) }
+        ensures ok { OnOk result (RecodesMore P.tried P.step self.old self.new (0 ∷ 0 ∷ 0 ∷ [])) }
+        ensures err { IfErr result (RecodingStops P.tried P.step self.old self.new (0 ∷ 0 ∷ 0 ∷ [])) }
         ensures again { (stopped : _) → IsStopped self.old stopped → (result ≡ Err stopped) × (self.new ≡ self.old) }
         ensures stops { IfErr result (IsStopped self.new) }
         ensures options { options_of P.tried self.new ≡ options_of P.tried self.old }
-        ensures pick { self.new.pick ≡ self.old.pick }
     {
         self.feed(&[0, 0, 0])
     }
@@ -94,8 +92,8 @@ impl<P: InitPick> Recoder<P> {
     /// Gives the bytes that are written for the next unit, start codes included, with the event of it. None comes where
     /// all were taken. It takes no memory.
     pub fn drain(&mut self) -> Option<(Vec<u8>, Event)>
-        ensures some { IfSome result (λ written. Drains P.tried self.old self.new record { form = written.0.items; event = written.1 }) }
-        ensures none { IfNone result ((waiting self.old ≡ []) × IsKept P.tried self.old self.new) }
+        ensures some { IfSome result (λ written. Drains P.tried P.step self.old self.new record { form = written.0.items; event = written.1 }) }
+        ensures none { IfNone result ((waiting self.old ≡ []) × IsKept P.tried P.step self.old self.new) }
         ensures fewer { OnSome result (waiting_count self.new + 1 ≡ waiting_count self.old) }
         ensures stopped { (stopped : _) → IsStopped self.old stopped → IsStopped self.new stopped }
         ensures options { options_of P.tried self.new ≡ options_of P.tried self.old }
@@ -106,12 +104,11 @@ impl<P: InitPick> Recoder<P> {
 
     // Takes the units that have ended, up to the first that is refused.
     fn take_ended(&mut self) -> Result<(), Stopped>
-        ensures ok { OnOk result (TakesAll P.tried self.old self.new) }
-        ensures err { IfErr result (TakingStops P.tried self.old self.new) }
+        ensures ok { OnOk result (TakesAll P.tried P.step self.old self.new) }
+        ensures err { IfErr result (TakingStops P.tried P.step self.old self.new) }
         ensures stopped { OnOk result (self.new.stopped ≡ self.old.stopped) }
         ensures stops { IfErr result (λ e. self.new.stopped ≡ Some e) }
         ensures options { options_of P.tried self.new ≡ options_of P.tried self.old }
-        ensures pick { self.new.pick ≡ self.old.pick }
     {
         while let Some(unit) = self.splitter.take_unit() {
             self.recode(&unit)?;
@@ -121,13 +118,13 @@ impl<P: InitPick> Recoder<P> {
 
     // Reads a unit, and puts what is written for it behind what waits.
     fn recode(&mut self, unit: &[u8]) -> Result<(), Stopped>
-        ensures ok { OnOk result (Adds P.tried self.old self.new unit.now) }
+        ensures ok { OnOk result (Adds P.tried P.step self.old self.new unit.now) }
         ensures err { IfErr result (IsRefusedBy P.tried self.old unit.now) }
         ensures waits { OnErr result (waiting self.new ≡ waiting self.old) }
         ensures splitter { self.new.splitter ≡ self.old.splitter }
         ensures stops { IfErr result (λ e. self.new.stopped ≡ Some e) }
         ensures options { options_of P.tried self.new ≡ options_of P.tried self.old }
-        ensures pick { self.new.pick ≡ self.old.pick }
+        ensures pick { IfErr result (λ e. PickStops P.tried P.step (options_of P.tried self.old) e self.old.pick self.new.pick) }
     {
         let form = match unit_form(
             self.alloc,

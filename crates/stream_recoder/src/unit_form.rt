@@ -9,7 +9,7 @@ ghost use Rattle.slice_rewrite.specs.Items.{kind_of};
 ghost use Rattle.slice_rewrite.specs.Options.{options};
 ghost use Rattle.slice_rewrite.specs.declared.pick.Tries.{Tries};
 ghost use Rattle.slice_rewrite.specs.Written.{with_start_code, sps_unit, pps_unit};
-ghost use Rattle.stream_recoder.specs.Forms.{IsForm, IsRefusal, set_fault};
+ghost use Rattle.stream_recoder.specs.Forms.{IsForm, IsPickedForm, IsPickBehind, IsRefusal, set_fault};
 
 use annexb_units::{has_payload, unescape, write_unit};
 use h264_types::{Layer, Why};
@@ -37,9 +37,10 @@ pub fn unit_form<P: InitPick>(
     unit: &[u8],
 ) -> Result<UnitForm, RewriteFault>
     requires { plan.range ≡ None }
-    ensures ok { IfOk result (λ form. IsForm (options plan init.now (P.tried pick.old)) sets.old sets.new unit.now form.bytes.items form.macroblocks) }
+    ensures ok { IfOk result (λ form. IsPickedForm P.tried P.step (options plan init.now (P.tried pick.old)) sets.old sets.new unit.now form.bytes.items form.macroblocks pick.old pick.new) }
     ensures err { IfErr result (IsRefusal (options plan init.now (P.tried pick.old)) sets.old unit.now) }
-    ensures pick { pick.new ≡ pick.old }
+    ensures tried { P.tried pick.new ≡ P.tried pick.old }
+    ensures pick { IfErr result (λ fault. IsPickBehind P.tried P.step (options plan init.now (P.tried pick.old)) fault pick.old pick.new) }
 {
     if unit.is_empty() {
         return Err(RewriteFault::Outside(Why::Kind));
@@ -147,9 +148,10 @@ fn coded_form<P: InitPick>(
 ) -> Result<UnitForm, RewriteFault>
     requires kind { kind_of unit.now ≡ UnitKind.Slice }
     requires some { 1 ≤ length unit.now }
-    ensures ok { IfOk result (λ form. IsForm (options plan init.now (P.tried pick.old)) sets.now sets.now unit.now form.bytes.items form.macroblocks) }
+    ensures ok { IfOk result (λ form. IsPickedForm P.tried P.step (options plan init.now (P.tried pick.old)) sets.now sets.now unit.now form.bytes.items form.macroblocks pick.old pick.new) }
     ensures err { IfErr result (IsRefusal (options plan init.now (P.tried pick.old)) sets.now unit.now) }
-    ensures pick { pick.new ≡ pick.old }
+    ensures tried { P.tried pick.new ≡ P.tried pick.old }
+    ensures pick { IfErr result (λ fault. IsPickBehind P.tried P.step (options plan init.now (P.tried pick.old)) fault pick.old pick.new) }
 {
     let payload = unescape(alloc, unit)?;
     let opened = open_slice(alloc, sets, unit[0], payload.as_slice(), plan.to)?;

@@ -3,7 +3,9 @@ use h264_types::{Case, Layer, Mb, MbKind, valid};
 use init_table::InitTable;
 use param_sets::{Sets, read_pps, read_sps};
 use slice_header::shape;
-use slice_rewrite::{FixedInit, How, RewriteFault, read_slice, recode_slice, write_slice};
+use slice_rewrite::{
+    FixedInit, How, InitPick, RewriteFault, Tries, Written, read_slice, recode_slice, write_slice,
+};
 use std::alloc::Global;
 use std::test::Fail;
 
@@ -33,6 +35,13 @@ const INTRA_IN_CABAC: Unit = Unit {
 
 /// It with a level of 2065 at the first place of its DC levels.
 const GREATER_LEVEL: [u8; 10] = [0x88, 0x84, 0xFF, 0x74, 0, 0x0E, 0x6E, 0x32, 0x65, 8];
+
+/// A P slice of a skipped macroblock under the same sets.
+const SKIPPED: Unit = Unit {
+    header: 1,
+    payload: &[0x9A, 0x25, 0x40],
+    ..INTRA
+};
 
 /// High, fields of four by two macroblocks, with the 8x8 transform: a slice of a bottom field with 32 active references,
 /// of one skipped macroblock, that is no reference.
@@ -114,6 +123,61 @@ fn takes_another_number(alloc: Global, unit: &Unit, to: Layer, due: &[u8]) -> Re
     Ok(again.payload.as_slice() == due && again.macroblocks == 1)
 }
 
+/// A pick that tries all numbers and chooses 2, and keeps what it was asked last, and how often.
+#[derive(Drop)]
+struct Greatest {
+    lengths: [u64; 3],
+    asked: u32,
+}
+
+impl InitPick for Greatest {
+    ghost use Rattle.std.specs.Prelude.{◌≡◌};
+    ghost use Rattle.slice_rewrite.specs.declared.pick.Tries.TheVariants.{All};
+
+    ghost tried = { λ pick. All };
+
+    ghost step = { λ old lengths answer new. answer ≡ 2 };
+
+    fn tries(&self) -> Tries {
+        Tries::All
+    }
+
+    fn choose(&mut self, lengths: &[u64; 3]) -> u8 {
+        self.lengths = *lengths;
+        self.asked = self.asked.saturating_add(1);
+        2
+    }
+}
+
+// Writes a slice under the number of a pick.
+fn picked(alloc: Global, unit: &Unit, to: Layer, pick: &mut Greatest) -> Result<Written, Fail> {
+    let sets = sets_of(alloc, unit)?;
+    let init = InitTable::of("flat")?;
+    let written = recode_slice(alloc, &sets, &init, unit.header, unit.payload, to, 0, pick)?;
+    Ok(written)
+}
+
+// Whether a pick of all numbers is asked once about a P slice that CABAC is wanted for, with the lengths of its three units, and
+// about no other slice.
+fn is_asked_where_a_number_stands(alloc: Global) -> Result<bool, Fail> {
+    let mut pick = Greatest {
+        lengths: [0; 3],
+        asked: 0,
+    };
+    let intra = picked(alloc, &INTRA, Layer::Cabac, &mut pick)?;
+    let same = picked(alloc, &SKIPPED, Layer::Cavlc, &mut pick)?;
+    let never = pick.asked == 0;
+    let greatest = picked(alloc, &SKIPPED, Layer::Cabac, &mut pick)?;
+    Ok(
+        never
+            && intra.payload.as_slice() == INTRA_IN_CABAC.payload
+            && same.payload.as_slice() == SKIPPED.payload
+            && greatest.payload.as_slice() == [0x9A, 0x23, 0xFF, 0x86, 0x80].as_slice()
+            && pick.asked == 1
+            && pick.lengths == [5, 6, 6],
+    )
+}
+
 // Whether the slice stops at a level of 2065, which needs a level_prefix above 15, and has one of 2064.
 fn is_bound_in_main(alloc: Global) -> Result<bool, Fail> {
     let sets = sets_of(alloc, &INTRA)?;
@@ -178,5 +242,6 @@ fn slices_are_written(rt: HostRuntime) -> Result<(), Fail> {
     assert!(rt; is_bound_in_main(alloc)?);
     assert!(rt; has_greater_levels_in_cabac(alloc)?);
     assert!(rt; has_all_parts(alloc)?);
+    assert!(rt; is_asked_where_a_number_stands(alloc)?);
     Ok(())
 }

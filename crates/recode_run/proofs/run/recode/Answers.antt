@@ -10,7 +10,7 @@ returns-in_default-clause-ends g c = none_begun (run_to c.args.to c.args.init) c
 
 pub recode_all-status-requires-clause-ready : goal.recode_all-status-requires-clause-ready
 unfolding seen
-recode_all-status-requires-clause-ready g c = (c.in-Ok.ensures.0, c.in-Ok.ensures.0.holds.written)
+recode_all-status-requires-clause-ready g c = ((_, c.in-Ok.ensures.0), c.in-Ok.ensures.0.holds.written)
 
 pub returns-in-Ok-flush-clause-ends : goal.returns-in-Ok-flush-clause-ends
 returns-in-Ok-flush-clause-ends g c =

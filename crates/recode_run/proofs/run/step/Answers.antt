@@ -9,8 +9,8 @@ returns-in-Err g c =
     let fed = c.feed-fed.ensures in
     record {
       ok = tt;
-      err = piece_part g.P.InitPick.tried (held c.args.out.now) (held c.put_waiting.new.out) r r1 c.args.piece.now c.in-Err.fault c.status_of.result c.status_of.ensures
-          (leaves g.P.InitPick.tried r r1 c.args.piece.now c.feed-fed.result fed.options fed.ok fed.err) c.in-Err.ensures.err;
+      err = piece_part g.P.InitPick.tried g.P.InitPick.step (held c.args.out.now) (held c.put_waiting.new.out) r r1 c.args.piece.now c.in-Err.fault c.status_of.result c.status_of.ensures
+          (leaves g.P.InitPick.tried g.P.InitPick.step r r1 c.args.piece.now c.feed-fed.result fed.options fed.ok fed.err) c.in-Err.ensures.err;
       cause = rose-fault (g.K.Sink.faults c.args.out.now) (g.K.Sink.faults c.put_waiting.new.out) c.in-Err.fault c.status_of.result c.status_of.ensures c.in-Err.ensures.cause.failed;
       later = c.in-Err.ensures.cause.later;
     }
@@ -20,7 +20,7 @@ returns-in-Err-fed g c =
     let held = g.K.Sink.held in
     record {
       ok = tt;
-      err = piece_stops g.P.InitPick.tried (held c.args.out.now) (held c.put_waiting.new.out) c.args.recoder.now c.feed-fed.new.self c.args.piece.now c.in-Err-fed.stopped c.ended_by.result c.ended_by.ensures
+      err = piece_stops g.P.InitPick.tried g.P.InitPick.step (held c.args.out.now) (held c.put_waiting.new.out) c.args.recoder.now c.feed-fed.new.self c.args.piece.now c.in-Err-fed.stopped c.ended_by.result c.ended_by.ensures
           c.in-Err-fed.ensures.err c.in-Ok.ensures.ok.0;
       cause = rose-stop (g.K.Sink.faults c.args.out.now) (g.K.Sink.faults c.put_waiting.new.out) c.in-Err-fed.stopped c.ended_by.result c.ended_by.ensures;
       later = c.in-Ok.ensures.cause.later;
@@ -30,7 +30,7 @@ pub returns-in-Ok-fed : goal.returns-in-Ok-fed
 returns-in-Ok-fed g c =
     let held = g.K.Sink.held in
     record {
-      ok = piece_done g.P.InitPick.tried (held c.args.out.now) (held c.put_waiting.new.out) c.args.recoder.now c.feed-fed.new.self c.put_waiting.new.recoder c.args.account.now c.put_waiting.new.account c.args.piece.now
+      ok = piece_done g.P.InitPick.tried g.P.InitPick.step (held c.args.out.now) (held c.put_waiting.new.out) c.args.recoder.now c.feed-fed.new.self c.put_waiting.new.recoder c.args.account.now c.put_waiting.new.account c.args.piece.now
           c.feed-fed.ensures.options c.put_waiting.ensures.options c.in-Ok-fed.ensures.ok c.in-Ok.ensures.ok c.in-Ok.ensures.recodes;
       err = tt;
       cause = tt;

@@ -2,7 +2,7 @@ use Rattle.std.proofs.Common.{◌∙◌, ap}
 use Rattle.bit_texts.specs.Bits.{bits_of}
 use Rattle.param_sets.specs.PpsCodes.{pps_in, pps_text}
 use Rattle.param_sets.proofs.TrailingWritten.{payload_ends}
-use Rattle.stream_recoder.proofs.UnitForms.{has_escape}
+use Rattle.slice_rewrite.proofs.Picked.{has_escape}
 use Rattle.stream_recoder.proofs.unit_form.pps_unit.Goals as goal
 
 pub payload_unit-requires : goal.payload_unit-requires

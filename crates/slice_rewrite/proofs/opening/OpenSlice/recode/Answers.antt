@@ -1,37 +1,34 @@
--- The header is written, and the data behind it, in the shape of the header that is written.
-use Rattle.std.proofs.Common.{map}
-use Rattle.std.proofs.lemmas.Result.{err_from_is_err_and}
-use Rattle.slice_data.specs.WrittenForm.{written_mb}
-use Rattle.slice_rewrite.specs.SliceForms.{sets_in}
-use Rattle.slice_rewrite.proofs.SliceForms.{shape_built, shape_of_both, shape_written, data_fills, copied, not_copied}
+-- A pick of one number isn't asked, and one of all about a slice alone in which the number stands.
+use Rattle.std.proofs.Common.{◌∙◌, refl, sym, true, false}
+use Rattle.std.proofs.lemmas.Result.{IfOk-weaker}
+use Rattle.slice_rewrite.specs.Options.{whole_run}
+use Rattle.slice_rewrite.specs.Picks.{IsChosen, IsPickedForm}
+use Rattle.slice_rewrite.specs.SliceForms.{IsSliceForm}
+use Rattle.slice_rewrite.specs.declared.pick.Tries.TheVariants.{One}
+use Rattle.slice_rewrite.proofs.Picked.{picked_all, picked_none, stands_opened}
 use Rattle.slice_rewrite.proofs.opening.OpenSlice.recode.Goals as goal
 
-pub copy_to-requires-clause-column : goal.copy_to-requires-clause-column
-copy_to-requires-clause-column g c = c.written_shape-shape.ensures.other (shape_built c.args.to c.requires.0 c.requires.1 c.requires.2 c.args.self c.requires.3).is_shape
+pub returns-in-All-clause-ok : goal.returns-in-All-clause-ok
+returns-in-All-clause-ok g c sets header bits r =
+    let P = g.P.InitPick in
+    let to = c.args.to in
+    let init = c.args.init.now in
+    let old = c.args.pick.now in
+    let new = c.recode_by.new.pick in
+    IfOk-weaker c.recode_by.result (λ form. IsChosen P.tried P.step to init c.args.number sets header bits old form.payload.items form.macroblocks new)
+    (λ form. IsPickedForm P.tried P.step to init c.args.number sets header bits old form.payload.items form.macroblocks new)
+    (λ form chosen. picked_all P.tried P.step to init c.args.number sets header bits old new form.payload.items form.macroblocks (sym c.in-All.ensures.value) chosen
+    (stands_opened to init sets header bits c.args.self.now true chosen.form.slice r (λ mbs. sym c.if-sends_idc.true ∙ c.sends_idc.ensures sets header bits r mbs) chosen.form.read))
+    (c.recode_by.ensures.ok sets header bits r)
 
-pub copy_to-requires-clause-shape : goal.copy_to-requires-clause-shape
-copy_to-requires-clause-shape g c =
-    let is = (shape_built c.args.to c.requires.0 c.requires.1 c.requires.2 c.args.self c.requires.3).is_shape in
-    shape_of_both c.args.self.shape c.written_shape-shape.result (c.written_shape-shape.ensures.other is) is
-
-pub copy_to-requires-clause-built : goal.copy_to-requires-clause-built
-copy_to-requires-clause-built g c =
-    let self = c.args.self in
-    let r = c.requires.3 in
-    shape_written c.args.to c.args.number c.number_tried-idc.result c.requires.0 c.requires.1 c.requires.2 self c.written_shape-shape.result r (c.written_shape-shape.ensures.written (sets_in self) self.header c.args.number r.shape)
-
-pub into_bytes-requires : goal.into_bytes-requires
-into_bytes-requires g c =
-    let k = c.in_ok-out.ensures.ok in
-    data_fills c.args.to c.args.init.now c.written_shape-shape.result c.write_header_under.new.out c.in_ok-out.out k.text (map (written_mb c.args.to) k.mbs) k.is_text k.written
-
-pub returns-clause-ok : goal.returns-clause-ok
-returns-clause-ok g c sets header bits r =
-    let self = c.args.self in
-    copied c.args.to c.args.init.now (g.P.InitPick.tried c.args.pick.now) c.args.number c.number_tried-idc.result sets header bits self c.written_shape-shape.result c.new-out.result c.write_header_under.new.out c.in_ok-out.out c.into_bytes.result.items c.in_ok-out.macroblocks
-    c.number_tried-idc.ensures.tried r (c.written_shape-shape.ensures.written (sets_in self) self.header c.args.number r.shape) c.new-out.ensures c.in_ok-write_header_under.ensures c.in_ok-out.ensures.ok c.into_bytes.ensures
-
-pub returns-in_err-out-clause-err : goal.returns-in_err-out-clause-err
-returns-in_err-out-clause-err g c sets header bits r =
-    let p = err_from_is_err_and c.from_residual-in_err-out.result c.from_residual-in_err-out.ensures.1 in
-    rw (p.1, p.2) (not_copied c.args.to c.args.init.now sets header bits c.args.self c.in_err-out.field-0.0 r c.in_err-out.ensures.err)
+pub returns-in-All-2-clause-ok : goal.returns-in-All-2-clause-ok
+returns-in-All-2-clause-ok g c sets header bits r =
+    let P = g.P.InitPick in
+    let to = c.args.to in
+    let init = c.args.init.now in
+    let pick = c.args.pick.now in
+    IfOk-weaker c.recode_with-in-All-2.result (λ form. IsSliceForm (whole_run to init (One 0)) c.args.number sets header bits form.payload.items form.macroblocks)
+    (λ form. IsPickedForm P.tried P.step to init c.args.number sets header bits pick form.payload.items form.macroblocks pick)
+    (λ form f. picked_none P.tried P.step to init c.args.number sets header bits pick pick 0 form.payload.items form.macroblocks (sym c.in-All-2.ensures.value) refl f
+    (stands_opened to init sets header bits c.args.self.now false f.slice r (λ mbs. sym c.if-sends_idc.false ∙ c.sends_idc.ensures sets header bits r mbs) f.read))
+    (c.recode_with-in-All-2.ensures.ok sets header bits r)

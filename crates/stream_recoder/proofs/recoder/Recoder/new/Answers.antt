@@ -8,7 +8,7 @@ unfolding seen
 returns g c = (
   record {
     items = [];
-    holds = record { splitter = c.new.ensures; judged = refl; written = ap (λ v. map (λ w. let x : Written = record { form = w.0.items; event = w.1 } in x) v) c.new-3.ensures.items; count = refl; sets = c.new-2.ensures };
+    holds = record { splitter = c.new.ensures; judged = refl; written = ap (λ v. map (λ w. let x : Written = record { form = w.0.items; event = w.1 } in x) v) c.new-3.ensures.items; count = refl; sets = c.new-2.ensures; picked = refl };
     sound = refl;
     on = refl;
   },

@@ -14,7 +14,8 @@ pub returns-clause-ok : goal.returns-clause-ok
 returns-clause-ok g c =
     let tried = g.P.InitPick.tried in
     let r = c.args.self.now in
-    let f = c.in-Ok.ensures.ok in
+    let picked = c.in-Ok.ensures.ok in
+    let f = picked.form_is in
     let form = c.in-Ok.form in
     let event = c.event_of-event.result in
     record {
@@ -27,5 +28,6 @@ returns-clause-ok g c =
       count = c.saturating_add-self.ensures;
       sets = f.sets_are;
       stopped = refl;
-      options = ap (λ p. options r.plan r.init (tried p)) c.unit_form.ensures.pick;
+      options = ap (options r.plan r.init) c.unit_form.ensures.tried;
+      pick = picked.pick;
     }

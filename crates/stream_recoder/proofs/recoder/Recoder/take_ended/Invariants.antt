@@ -10,11 +10,10 @@ abbrev pub invariant-loop-unit : goal.invariant-loop-unit
 invariant-loop-unit g l =
     let tried = g.P.InitPick.tried in
     record {
-      holds : Took tried l.fn.self l.self;
+      holds : Took tried g.P.InitPick.step l.fn.self l.self;
       grows : (more : List Written) × (waiting l.self ≡ waiting l.fn.self ++ more);
       stopped : l.self.stopped ≡ l.fn.self.stopped;
       options : options_of tried l.self ≡ options_of tried l.fn.self;
-      pick : l.self.pick ≡ l.fn.self.pick;
     }
 
 abbrev pub decreases-loop-unit : goal.decreases-loop-unit
