@@ -1,6 +1,6 @@
 -- Reading and writing a macroblock, its mb_type first.
 use Rattle.std.proofs.Common.{◌≡◌, ◌⊎◌, inl, inr, ℕ, ◌+◌, ◌<◌, ◌≤◌, Bool, true, false, List, [], ◌∷◌, ◌++◌, length, replicate, Option, Some, None, refl, sym, ap, subst, ◌∙◌, lt-ltb, append_assoc, length-append, arith}
-use Rattle.std.specs.Prelude.{All, if◌then◌else◌, slice_index}
+use Rattle.std.specs.Prelude.{All, if◌then◌else◌}
 use Rattle.std.specs.List.{AllByRecursion}
 use Rattle.std.specs.Option.{option_map}
 use Rattle.std.proofs.lemmas.Bool.{ltb-true}
@@ -18,6 +18,7 @@ use Rattle.exp_golomb.specs.Element.{element_at}
 use Rattle.exp_golomb.proofs.Fronts.{element-inverts}
 use Rattle.h264_types.proofs.KindLaws.{named_pcm}
 use Rattle.h264_types.specs.Kind.{is_i_pcm, is_skip}
+use Rattle.h264_types.specs.SliceShape.{IsSliceShape}
 use Rattle.h264_types.specs.Valid.{is_kind_in}
 use Rattle.h264_types.specs.declared.macroblock.Mb.{Mb}
 use Rattle.h264_types.specs.declared.macroblock.MbKind.{MbKind}
@@ -68,18 +69,18 @@ samples_inverts =
 
 -- ---- I_PCM
 
-pub pcm_inverts : Inverts IsIPcm pcm_text pcm_at
+pub pcm_inverts : (field : Bool) → Inverts (IsIPcm field) pcm_text (pcm_at field)
 unfolding pcm_at
-pcm_inverts =
-    bind_inverts IsIPcm (λ (x : Unit {0}). Unit {0}) (λ n x. alignment n) alignment_at (λ mb. tt) (λ n mb. alignment n) (λ n mb. bits_of mb.pcm) (λ x c. samples_at c >>= λ samples. Some (i_pcm samples.0, samples.1))
+pcm_inverts field =
+    bind_inverts (IsIPcm field) (λ (x : Unit {0}). Unit {0}) (λ n x. alignment n) alignment_at (λ mb. tt) (λ n mb. alignment n) (λ n mb. bits_of mb.pcm) (λ x c. samples_at c >>= λ samples. Some (i_pcm field samples.0, samples.1))
     alignment_inverts (λ mb q. tt) (λ n mb q. refl)
-    (λ x p. map_inverts AreSamples (λ mb. IsIPcm mb × (tt ≡ x)) (λ n. bits_of) samples_at i_pcm (λ mb. mb.pcm) (λ n mb. bits_of mb.pcm) samples_inverts
+    (λ x p. map_inverts AreSamples (λ mb. IsIPcm field mb × (tt ≡ x)) (λ n. bits_of) samples_at (i_pcm field) (λ mb. mb.pcm) (λ n mb. bits_of mb.pcm) samples_inverts
     (λ samples h. ((record { elements = refl; samples = h }, refl), refl))
     (λ mb q. (q.0.samples, sym q.0.elements))
     (λ n mb q. refl))
 
-pub pcm_kind : (mb : Mb) → IsIPcm mb → mb.kind ≡ Intra 25
-pcm_kind mb is = ap (λ (m : Mb). m.kind) is.elements
+pub pcm_kind : (field : Bool) (mb : Mb) → IsIPcm field mb → mb.kind ≡ Intra 25
+pcm_kind field mb is = ap (λ (m : Mb). m.kind) is.elements
 
 -- ---- types
 
@@ -92,21 +93,21 @@ type_bits shape type = ue (type_of shape.kind type.0 type.1)
 abbrev pub typed_of : Mb → Typed
 typed_of mb = (mb.kind, mb.ref0)
 
-sent_type : (shape : SliceShape) (bound : ℕ) (mb : Mb) → IsSent shape bound mb → IsTypeIn shape.kind (typed_of mb)
-sent_type shape bound mb is = record { kind = is.kind; sent = is.sent; ref0 = is.ref0 }
+sent_type : (shape : SliceShape) (field : Bool) (bound : ℕ) (mb : Mb) → IsSent shape field bound mb → IsTypeIn shape.kind (typed_of mb)
+sent_type shape field bound mb is = record { kind = is.kind; sent = is.sent; ref0 = is.ref0 }
 
-sent_pcm : (shape : SliceShape) (bound : ℕ) (mb : Mb) → is_i_pcm mb.kind ≡ true → IsSent shape bound mb → IsIPcm mb
-sent_pcm shape bound mb e is = by is.elements
+sent_pcm : (shape : SliceShape) (field : Bool) (bound : ℕ) (mb : Mb) → is_i_pcm mb.kind ≡ true → IsSent shape field bound mb → IsIPcm field mb
+sent_pcm shape field bound mb e is = by is.elements
   where
-    by : IsIPcm mb ⊎ ((is_i_pcm mb.kind ≡ false) × IsLayer shape mb.kind mb.ref0 false bound mb) → IsIPcm mb
+    by : IsIPcm field mb ⊎ ((is_i_pcm mb.kind ≡ false) × IsLayer shape mb.kind mb.ref0 field bound mb) → IsIPcm field mb
     by (inl is) = is
     by (inr other) = absurd (cc (e, other.0))
 
-pub sent_layer : (shape : SliceShape) (bound : ℕ) (mb : Mb) → is_i_pcm mb.kind ≡ false → IsSent shape bound mb → IsLayer shape mb.kind mb.ref0 false bound mb
-sent_layer shape bound mb e is = by is.elements
+pub sent_layer : (shape : SliceShape) (field : Bool) (bound : ℕ) (mb : Mb) → is_i_pcm mb.kind ≡ false → IsSent shape field bound mb → IsLayer shape mb.kind mb.ref0 field bound mb
+sent_layer shape field bound mb e is = by is.elements
   where
-    by : IsIPcm mb ⊎ ((is_i_pcm mb.kind ≡ false) × IsLayer shape mb.kind mb.ref0 false bound mb) → IsLayer shape mb.kind mb.ref0 false bound mb
-    by (inl is) = let bad : is_i_pcm mb.kind ≡ true = ap is_i_pcm (pcm_kind mb is) in absurd (cc (e, bad))
+    by : IsIPcm field mb ⊎ ((is_i_pcm mb.kind ≡ false) × IsLayer shape mb.kind mb.ref0 field bound mb) → IsLayer shape mb.kind mb.ref0 field bound mb
+    by (inl is) = let bad : is_i_pcm mb.kind ≡ true = ap is_i_pcm (pcm_kind field mb is) in absurd (cc (e, bad))
     by (inr other) = other.1
 
 behind_pcm : (shape : SliceShape) (around : Around) (pos : ℕ) (mb : Mb) → is_i_pcm mb.kind ≡ true → behind_type shape around pos mb ≡ pcm_text pos mb
@@ -122,40 +123,40 @@ unfolding macroblock_text
 text_parts shape around pos mb rest = append_assoc (type_text shape.kind mb) (behind_type shape around (pos + length (type_text shape.kind mb)) mb) rest
 
 -- where the text of a macroblock begins the bits, its type is read first, and what stands behind it follows
-begins_type : (shape : SliceShape) (around : Around) (bound : ℕ) (c d : Cursor) (type : Typed) (mb : Mb) (more : List Bool) → IsTypeIn shape.kind type → Takes (type_bits shape type) c d → IsSent shape bound mb → c.left ≡ macroblock_text shape around c.taken mb ++ more
+begins_type : (shape : SliceShape) (field : Bool) (around : Around) (bound : ℕ) (c d : Cursor) (type : Typed) (mb : Mb) (more : List Bool) → IsTypeIn shape.kind type → Takes (type_bits shape type) c d → IsSent shape field bound mb → c.left ≡ macroblock_text shape around c.taken mb ++ more
     → (typed_of mb ≡ type) × (d.left ≡ behind_type shape around d.taken mb ++ more)
-begins_type shape around bound c d type mb more typed took is e =
+begins_type shape field around bound c d type mb more typed took is e =
     let far : ℕ = c.taken + length (type_text shape.kind mb) in
-    let both = same_rest (IsTypeIn shape.kind) (type_bits shape) (IsPrefixFree-type shape.kind) (typed_of mb) type (behind_type shape around far mb ++ more) d.left (sent_type shape bound mb is) typed (sym (text_parts shape around c.taken mb more) ∙ sym e ∙ took.parts) in
+    let both = same_rest (IsTypeIn shape.kind) (type_bits shape) (IsPrefixFree-type shape.kind) (typed_of mb) type (behind_type shape around far mb ++ more) d.left (sent_type shape field bound mb is) typed (sym (text_parts shape around c.taken mb more) ∙ sym e ∙ took.parts) in
     let same : far ≡ d.taken = ap (λ t. c.taken + length (type_bits shape t)) both.0 ∙ sym took.count in
     (both.0, sym both.1 ∙ ap (λ n. behind_type shape around n mb ++ more) same)
 
 -- no text begins another one
-pub IsPrefixFree-macroblock : (shape : SliceShape) (around : Around) (bound pos : ℕ) → slice_index shape.refs 0 ≤ 255 → slice_index shape.refs 1 ≤ 255 → bound ≤ 20 → IsPrefixFree (IsSent shape bound) (macroblock_text shape around pos)
-IsPrefixFree-macroblock shape around bound pos few0 few1 within v w x y p q e =
+pub IsPrefixFree-macroblock : (shape : SliceShape) (field : Bool) (around : Around) (bound pos : ℕ) → IsSliceShape shape → bound ≤ 20 → IsPrefixFree (IsSent shape field bound) (macroblock_text shape around pos)
+IsPrefixFree-macroblock shape field around bound pos is_shape within v w x y p q e =
     let far : ℕ = pos + length (type_text shape.kind v) in
     let c : Cursor = cursor pos (macroblock_text shape around pos v ++ x) in
     let d : Cursor = cursor far (behind_type shape around far v ++ x) in
-    let other = begins_type shape around bound c d (typed_of v) w y (sent_type shape bound v p) (record { parts = text_parts shape around pos v x; count = refl }) q e in
+    let other = begins_type shape field around bound c d (typed_of v) w y (sent_type shape field bound v p) (record { parts = text_parts shape around pos v x; count = refl }) q e in
     by (is_i_pcm v.kind) refl far other.0 other.1
   where
     by : (b : Bool) → is_i_pcm v.kind ≡ b → (far : ℕ) → typed_of w ≡ typed_of v → behind_type shape around far v ++ x ≡ behind_type shape around far w ++ y → v ≡ w
     by true is far type same =
         let is' : is_i_pcm w.kind ≡ true = ap (λ (t : Typed). is_i_pcm t.0) type ∙ is in
-        IsPrefixFree-from_Inverts IsIPcm pcm_text pcm_at pcm_inverts far v w x y (sent_pcm shape bound v is p) (sent_pcm shape bound w is' q)
+        IsPrefixFree-from_Inverts (IsIPcm field) pcm_text (pcm_at field) (pcm_inverts field) far v w x y (sent_pcm shape field bound v is p) (sent_pcm shape field bound w is' q)
         (ap (λ t. t ++ x) (sym (behind_pcm shape around far v is)) ∙ same ∙ ap (λ t. t ++ y) (behind_pcm shape around far w is'))
     by false is far type same =
         let is' : is_i_pcm w.kind ≡ false = ap (λ (t : Typed). is_i_pcm t.0) type ∙ is in
-        let P : Typed → Type 0 = λ t. IsLayer shape t.0 t.1 false bound w in
-        IsPrefixFree-layer shape around v.kind v.ref0 bound few0 few1 within v w x y (sent_layer shape bound v is p) (subst P type (sent_layer shape bound w is' q))
+        let P : Typed → Type 0 = λ t. IsLayer shape t.0 t.1 field bound w in
+        IsPrefixFree-layer shape around v.kind v.ref0 field bound is_shape within v w x y (sent_layer shape field bound v is p) (subst P type (sent_layer shape field bound w is' q))
         (ap (λ t. t ++ x) (sym (behind_layer shape around far v is)) ∙ same ∙ ap (λ t. t ++ y) (behind_layer shape around far w is') ∙ ap (λ (t : Typed). layer_text shape around t.0 t.1 w ++ y) type)
 
 -- ---- reading a macroblock
 
 -- no mb_type stands here
-pub no_type : (shape : SliceShape) (around : Around) (bound : ℕ) (c : Cursor) (mid : List Bool) (mb : Mb) (e : Cursor) → Reads (IsTypeIn shape.kind) (type_bits shape) c.left None mid → ReadsMacroblock shape around bound c None mb e
-no_type shape around bound c mid mb e none v more is same =
-    none (typed_of v) (behind_type shape around (c.taken + length (type_text shape.kind v)) v ++ more) (sent_type shape bound v is) (same ∙ text_parts shape around c.taken v more)
+pub no_type : (shape : SliceShape) (field : Bool) (around : Around) (bound : ℕ) (c : Cursor) (mid : List Bool) (mb : Mb) (e : Cursor) → Reads (IsTypeIn shape.kind) (type_bits shape) c.left None mid → ReadsMacroblock shape field around bound c None mb e
+no_type shape field around bound c mid mb e none v more is same =
+    none (typed_of v) (behind_type shape around (c.taken + length (type_text shape.kind v)) v ++ more) (sent_type shape field bound v is) (same ∙ text_parts shape around c.taken v more)
 
 -- what was read behind a type
 whole : (shape : SliceShape) (around : Around) (c d e : Cursor) (type : Typed) (mb : Mb) (text : List Bool) → typed_of mb ≡ type → Takes (type_bits shape type) c d → behind_type shape around d.taken mb ≡ text → Takes text d e → Takes (macroblock_text shape around c.taken mb) c e
@@ -166,24 +167,25 @@ whole shape around c d e type mb text same first behind second =
     Takes-then c (type_text shape.kind mb) d (behind_type shape around (c.taken + length (type_text shape.kind mb)) mb) e first' (subst (λ t. Takes t d e) (sym far) second)
 
 -- I_PCM
-pub reads_pcm : (shape : SliceShape) (around : Around) (bound : ℕ) (c d : Cursor) (type : Typed) → IsTypeIn shape.kind type → Takes (type_bits shape type) c d → is_i_pcm type.0 ≡ true
-    → (result : Option (Unit {0})) (mb : Mb) (e : Cursor) → Gives (option_map (λ (_ : Unit {0}). mb) result) e (pcm_at d) → ReadsMacroblock shape around bound c result mb e
-reads_pcm shape around bound c d type typed took pcm None mb e none = λ v more is same.
-    let b = begins_type shape around bound c d type v more typed took is same in
+pub reads_pcm : (shape : SliceShape) (field : Bool) (around : Around) (bound : ℕ) → (field ≡ true → shape.mbaff ≡ true) → (c d : Cursor) (type : Typed) → IsTypeIn shape.kind type → Takes (type_bits shape type) c d → is_i_pcm type.0 ≡ true
+    → (result : Option (Unit {0})) (mb : Mb) (e : Cursor) → Gives (option_map (λ (_ : Unit {0}). mb) result) e (pcm_at field d) → ReadsMacroblock shape field around bound c result mb e
+reads_pcm shape field around bound pair c d type typed took pcm None mb e none = λ v more is same.
+    let b = begins_type shape field around bound c d type v more typed took is same in
     let k : is_i_pcm v.kind ≡ true = ap (λ (t : Typed). is_i_pcm t.0) b.0 ∙ pcm in
-    let there : pcm_at d ≡ Some (v, cursor (d.taken + length (pcm_text d.taken v)) more) =
-    ap (λ l. pcm_at (cursor d.taken l)) (b.1 ∙ ap (λ t. t ++ more) (behind_pcm shape around d.taken v k)) ∙ pcm_inverts.again d.taken v more (sent_pcm shape bound v k is) in
+    let there : pcm_at field d ≡ Some (v, cursor (d.taken + length (pcm_text d.taken v)) more) =
+    ap (λ l. pcm_at field (cursor d.taken l)) (b.1 ∙ ap (λ t. t ++ more) (behind_pcm shape around d.taken v k)) ∙ (pcm_inverts field).again d.taken v more (sent_pcm shape field bound v k is) in
     absurd (cc (there, none))
-reads_pcm shape around bound c d type typed took pcm (Some x) mb e some =
-    let given = pcm_inverts.takes d mb e some in
-    let kind : mb.kind ≡ type.0 = pcm_kind mb given.0 ∙ sym (named_pcm type.0 pcm) in
+reads_pcm shape field around bound pair c d type typed took pcm (Some x) mb e some =
+    let given = (pcm_inverts field).takes d mb e some in
+    let kind : mb.kind ≡ type.0 = pcm_kind field mb given.0 ∙ sym (named_pcm type.0 pcm) in
     let ref0 : mb.ref0 ≡ false = ap (λ (m : Mb). m.ref0) given.0.elements in
     let plain : type.1 ≡ false = not_ref0 type.0 type.1 (named_pcm type.0 pcm) typed.ref0 in
     let same : typed_of mb ≡ type = ap (λ k. (k, mb.ref0)) kind ∙ ap (λ b. (type.0, b)) (ref0 ∙ sym plain) in
-    let is : IsSent shape bound mb = record {
+    let is : IsSent shape field bound mb = record {
       kind = ap (is_kind_in shape.kind) kind ∙ typed.kind;
       sent = ap is_skip kind ∙ typed.sent;
       ref0 = λ set. absurd (cc (ref0, set));
+      pair = pair;
       elements = inl given.0;
     } in
     (is, whole shape around c d e type mb (pcm_text d.taken mb) same took (behind_pcm shape around d.taken mb (ap is_i_pcm kind ∙ pcm)) given.1)
@@ -193,20 +195,20 @@ reads_pcm shape around bound c d type typed took pcm (Some x) mb e some =
     not_ref0 kind false e h = refl
 
 -- another type
-pub reads_layer : (shape : SliceShape) (around : Around) (bound : ℕ) (c d : Cursor) (type : Typed) → IsTypeIn shape.kind type → Takes (type_bits shape type) c d → is_i_pcm type.0 ≡ false
-    → (result : Option (Unit {0})) (mb : Mb) (e : Cursor) → Reads (IsLayer shape type.0 type.1 false bound) (layer_text shape around type.0 type.1) d.left (option_map (λ (_ : Unit {0}). mb) result) e.left → Keeps d e → ReadsMacroblock shape around bound c result mb e
-reads_layer shape around bound c d type typed took other None mb e none keeps = λ v more is same.
-    let b = begins_type shape around bound c d type v more typed took is same in
+pub reads_layer : (shape : SliceShape) (field : Bool) (around : Around) (bound : ℕ) → (field ≡ true → shape.mbaff ≡ true) → (c d : Cursor) (type : Typed) → IsTypeIn shape.kind type → Takes (type_bits shape type) c d → is_i_pcm type.0 ≡ false
+    → (result : Option (Unit {0})) (mb : Mb) (e : Cursor) → Reads (IsLayer shape type.0 type.1 field bound) (layer_text shape around type.0 type.1) d.left (option_map (λ (_ : Unit {0}). mb) result) e.left → Keeps d e → ReadsMacroblock shape field around bound c result mb e
+reads_layer shape field around bound pair c d type typed took other None mb e none keeps = λ v more is same.
+    let b = begins_type shape field around bound c d type v more typed took is same in
     let k : is_i_pcm v.kind ≡ false = ap (λ (t : Typed). is_i_pcm t.0) b.0 ∙ other in
-    let P : Typed → Type 0 = λ t. IsLayer shape t.0 t.1 false bound v in
-    none v more (subst P b.0 (sent_layer shape bound v k is)) (b.1 ∙ ap (λ t. t ++ more) (behind_layer shape around d.taken v k) ∙ ap (λ (t : Typed). layer_text shape around t.0 t.1 v ++ more) b.0)
-reads_layer shape around bound c d type typed took other (Some x) mb e some keeps =
+    let P : Typed → Type 0 = λ t. IsLayer shape t.0 t.1 field bound v in
+    none v more (subst P b.0 (sent_layer shape field bound v k is)) (b.1 ∙ ap (λ t. t ++ more) (behind_layer shape around d.taken v k) ∙ ap (λ (t : Typed). layer_text shape around t.0 t.1 v ++ more) b.0)
+reads_layer shape field around bound pair c d type typed took other (Some x) mb e some keeps =
     let same : typed_of mb ≡ type = ap (λ (m : Mb). (m.kind, m.ref0)) some.0.absent in
     let k : is_i_pcm mb.kind ≡ false = ap (λ (t : Typed). is_i_pcm t.0) same ∙ other in
-    let P : Typed → Type 0 = λ t. IsLayer shape t.0 t.1 false bound mb in
+    let P : Typed → Type 0 = λ t. IsLayer shape t.0 t.1 field bound mb in
     let Q : Typed → Type 0 = λ t. IsTypeIn shape.kind t in
     let type' = subst Q (sym same) typed in
-    let is : IsSent shape bound mb = record { kind = type'.kind; sent = type'.sent; ref0 = type'.ref0; elements = inr (k, subst P (sym same) some.0) } in
+    let is : IsSent shape field bound mb = record { kind = type'.kind; sent = type'.sent; ref0 = type'.ref0; pair = pair; elements = inr (k, subst P (sym same) some.0) } in
     (is, whole shape around c d e type mb (layer_text shape around type.0 type.1 mb) same took (behind_layer shape around d.taken mb k ∙ ap (λ (t : Typed). layer_text shape around t.0 t.1 mb) same) (Takes-from_Keeps (layer_text shape around type.0 type.1 mb) d e some.1 keeps))
 
 -- ---- writing a macroblock

@@ -224,9 +224,10 @@ delta_in false delta is = subst IsQpDelta (sym is) (omega (arith, ints), omega (
 
 -- ---- macroblocks that aren't I_PCM
 
-made : Typed → Parts → Mb
-made type v = record (no_elements type.0) {
+made : Bool → Typed → Parts → Mb
+made field type v = record (no_elements type.0) {
   ref0 = type.1;
+  field = field;
   t8 = v.0;
   modes = v.1.0;
   chroma_mode = v.1.1.0;
@@ -244,25 +245,25 @@ made type v = record (no_elements type.0) {
 parts_of_mb : Mb → Parts
 parts_of_mb mb = (mb.t8, (mb.modes, (mb.chroma_mode, (mb.subs, (mb.refs, (mb.mvd, (mb.pattern, (mb.qp_delta, (mb.dc, (mb.luma, (mb.chroma_dc, mb.chroma_ac)))))))))))
 
-abbrev IsMade : SliceShape → ℕ → Typed × Parts → Type 0
-IsMade shape bound v = IsTypeIn shape.kind v.0 × (AreParts (most_refs shape) v.1 × IsRest shape bound v.0 (made v.0 v.1))
+abbrev IsMade : SliceShape → Bool → ℕ → Typed × Parts → Type 0
+IsMade shape field bound v = IsTypeIn shape.kind v.0 × (AreParts (most_refs shape) v.1 × IsRest shape bound v.0 (made field v.0 v.1))
 
 types_searched : (shape : SliceShape) → Searches (IsTypeIn shape.kind)
 types_searched shape =
     images_searched (λ n. n ≤ first_intra shape.kind + 25) (IsTypeIn shape.kind) (type_at shape.kind) (at_type shape.kind)
     (λ type is. (type_of shape.kind type.0 type.1, most shape.kind type.0 type.1 is.kind, sym (typed_again shape.kind type is))) (at_most_searched (first_intra shape.kind + 25))
 
-made_searched : (shape : SliceShape) (bound : ℕ) → Searches (IsMade shape bound)
-made_searched shape bound =
-    pairs_searched (IsTypeIn shape.kind) (λ type v. AreParts (most_refs shape) v × IsRest shape bound type (made type v)) (types_searched shape)
-    (λ type. conditions_searched (AreParts (most_refs shape)) (λ v. IsRest shape bound type (made type v)) (λ v. rest_decided shape bound type (made type v)) (parts_searched (most_refs shape)))
+made_searched : (shape : SliceShape) (field : Bool) (bound : ℕ) → Searches (IsMade shape field bound)
+made_searched shape field bound =
+    pairs_searched (IsTypeIn shape.kind) (λ type v. AreParts (most_refs shape) v × IsRest shape bound type (made field type v)) (types_searched shape)
+    (λ type. conditions_searched (AreParts (most_refs shape)) (λ v. IsRest shape bound type (made field type v)) (λ v. rest_decided shape bound type (made field type v)) (parts_searched (most_refs shape)))
 
-abbrev IsOther : SliceShape → ℕ → Mb → Type 0
-IsOther shape bound mb = IsTypeIn shape.kind (typed_of mb) × IsPredicted shape bound mb
+abbrev IsOther : SliceShape → Bool → ℕ → Mb → Type 0
+IsOther shape field bound mb = IsTypeIn shape.kind (typed_of mb) × IsPredicted shape field bound mb
 
-made_is : (shape : SliceShape) (bound : ℕ) (v : Typed × Parts) → IsMade shape bound v → IsOther shape bound (made v.0 v.1)
+made_is : (shape : SliceShape) (field : Bool) (bound : ℕ) (v : Typed × Parts) → IsMade shape field bound v → IsOther shape field bound (made field v.0 v.1)
 unfolding made
-made_is shape bound v h =
+made_is shape field bound v h =
     let is = h.1.1 in (
       h.0,
       (
@@ -280,13 +281,13 @@ made_is shape bound v h =
       ),
     )
 
-is_made : (shape : SliceShape) (bound : ℕ) (mb : Mb) → IsOther shape bound mb → (v : Typed × Parts) × IsMade shape bound v × (mb ≡ made v.0 v.1)
+is_made : (shape : SliceShape) (field : Bool) (bound : ℕ) → (field ≡ true → shape.mbaff ≡ true) → (mb : Mb) → IsOther shape field bound mb → (v : Typed × Parts) × IsMade shape field bound v × (mb ≡ made field v.0 v.1)
 unfolding made parts_of_mb
-is_made shape bound mb h =
+is_made shape field bound pair mb h =
     let is = h.1.1 in
     let sizes : HasSizes mb = is.residual.sizes in
     let lists : HasLists mb = lists_of mb sizes in
-    let valid : IsMacroblock shape mb = sent_valid shape bound mb (record { kind = h.0.kind; sent = h.0.sent; ref0 = h.0.ref0; elements = inr h.1 }) in
+    let valid : IsMacroblock shape mb = sent_valid shape field bound mb (record { kind = h.0.kind; sent = h.0.sent; ref0 = h.0.ref0; pair = pair; elements = inr h.1 }) in
     let rest : IsRest shape bound (typed_of mb) mb = record {
       other = h.1.0;
       t8 = is.t8;
@@ -323,32 +324,40 @@ is_made shape bound mb h =
 
 -- ---- all macroblocks
 
-samples_searched : Searches IsIPcm
-samples_searched =
-    images_searched (AreMany (λ sample. sample ≤ 255) 384) IsIPcm i_pcm
+samples_searched : (field : Bool) → Searches (IsIPcm field)
+samples_searched field =
+    images_searched (AreMany (λ sample. sample ≤ 255) 384) (IsIPcm field) (i_pcm field)
     (λ samples h. record { elements = refl; samples = record { count = h.0; bytes = All-from_recursion (λ sample. sample ≤ 255) samples h.1 } })
     (λ mb is. (mb.pcm, (is.samples.count, recursion_from_All (λ sample. sample ≤ 255) mb.pcm is.samples.bytes), is.elements))
     (many_searched (λ sample. sample ≤ 255) (at_most_searched 255) 384)
 
-i_pcm_type : (shape : SliceShape) (mb : Mb) → IsIPcm mb → IsTypeIn shape.kind (typed_of mb)
-i_pcm_type shape mb is = subst (λ (m : Mb). IsTypeIn shape.kind (typed_of m)) (sym is.elements) (record { kind = in_slice shape.kind 25 (omega arith); sent = refl; ref0 = λ set. absurd cc })
+i_pcm_type : (shape : SliceShape) (field : Bool) (mb : Mb) → IsIPcm field mb → IsTypeIn shape.kind (typed_of mb)
+i_pcm_type shape field mb is = subst (λ (m : Mb). IsTypeIn shape.kind (typed_of m)) (sym is.elements) (record { kind = in_slice shape.kind 25 (omega arith); sent = refl; ref0 = λ set. absurd cc })
 
--- Of the macroblocks that have a text one passes a test, or none does.
-pub macroblock_searched : (shape : SliceShape) (bound : ℕ) → Searches (IsSent shape bound)
-macroblock_searched shape bound =
-    same_searched (λ mb. IsIPcm mb ⊎ IsOther shape bound mb) (IsSent shape bound) into from
-    (sums_searched IsIPcm (IsOther shape bound) samples_searched (images_searched (IsMade shape bound) (IsOther shape bound) (λ v. made v.0 v.1) (made_is shape bound) (is_made shape bound) (made_searched shape bound)))
+-- those of a pair flag that the slice may have
+paired_searched : (shape : SliceShape) (field : Bool) (bound : ℕ) → (field ≡ true → shape.mbaff ≡ true) → Searches (IsSent shape field bound)
+paired_searched shape field bound pair =
+    same_searched (λ mb. IsIPcm field mb ⊎ IsOther shape field bound mb) (IsSent shape field bound) into from
+    (sums_searched (IsIPcm field) (IsOther shape field bound) (samples_searched field) (images_searched (IsMade shape field bound) (IsOther shape field bound) (λ v. made field v.0 v.1) (made_is shape field bound) (is_made shape field bound pair) (made_searched shape field bound)))
   where
-    sent : (mb : Mb) → IsTypeIn shape.kind (typed_of mb) → IsIPcm mb ⊎ IsPredicted shape bound mb → IsSent shape bound mb
-    sent mb type elements = record { kind = type.kind; sent = type.sent; ref0 = type.ref0; elements = elements }
+    sent : (mb : Mb) → IsTypeIn shape.kind (typed_of mb) → IsIPcm field mb ⊎ IsPredicted shape field bound mb → IsSent shape field bound mb
+    sent mb type elements = record { kind = type.kind; sent = type.sent; ref0 = type.ref0; pair = pair; elements = elements }
 
-    into : (mb : Mb) → IsIPcm mb ⊎ IsOther shape bound mb → IsSent shape bound mb
-    into mb (inl is) = sent mb (i_pcm_type shape mb is) (inl is)
+    into : (mb : Mb) → IsIPcm field mb ⊎ IsOther shape field bound mb → IsSent shape field bound mb
+    into mb (inl is) = sent mb (i_pcm_type shape field mb is) (inl is)
     into mb (inr other) = sent mb other.0 (inr other.1)
 
-    by : (mb : Mb) → IsSent shape bound mb → IsIPcm mb ⊎ IsPredicted shape bound mb → IsIPcm mb ⊎ IsOther shape bound mb
+    by : (mb : Mb) → IsSent shape field bound mb → IsIPcm field mb ⊎ IsPredicted shape field bound mb → IsIPcm field mb ⊎ IsOther shape field bound mb
     by mb is (inl pcm) = inl pcm
     by mb is (inr other) = inr (record { kind = is.kind; sent = is.sent; ref0 = is.ref0 }, other)
 
-    from : (mb : Mb) → IsSent shape bound mb → IsIPcm mb ⊎ IsOther shape bound mb
+    from : (mb : Mb) → IsSent shape field bound mb → IsIPcm field mb ⊎ IsOther shape field bound mb
     from mb is = by mb is is.elements
+
+-- Of the macroblocks that have a text one passes a test, or none does.
+pub macroblock_searched : (shape : SliceShape) (field : Bool) (bound : ℕ) → Searches (IsSent shape field bound)
+macroblock_searched shape field bound = by (implied_decided field shape.mbaff)
+  where
+    by : Decided (IsTrue field → IsTrue shape.mbaff) → Searches (IsSent shape field bound)
+    by (inl pair) = paired_searched shape field bound pair
+    by (inr other) = λ test. inr (λ v is. absurd (other is.pair))

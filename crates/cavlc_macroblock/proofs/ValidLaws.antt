@@ -1,4 +1,4 @@
--- The macroblocks that have a text are the valid ones, outside MBAFF.
+-- The macroblocks that have a text are the valid ones.
 use Rattle.std.proofs.Common.{◌≡◌, ◌⊎◌, inl, inr, ℕ, zero, suc, ◌+◌, ◌-◌, ◌*◌, ◌<◌, ◌≤◌, ℤ, pos, negsuc, Bool, true, false, List, [], length, take, drop, replicate, refl, sym, ap, subst, ◌∙◌, arith}
 use Rattle.std.specs.Prelude.{All, IsTrue, if◌then◌else◌, ◌&&◌, ◌||◌, not, ◌==◌, nat_lt, ◌≤ℤ◌, slice_index, slice_index_or, unsigned_abs}
 use Rattle.std.specs.List.{AllByRecursion, list_all}
@@ -31,7 +31,7 @@ use Rattle.cavlc_mb_residual.specs.LumaBlocks as blocks
 use Rattle.cavlc_mb_residual.proofs.BeyondLaws.{each_turn}
 use Rattle.cavlc_mb_residual.proofs.ResidualUnique.{same_two}
 use Rattle.cavlc_mb_residual.proofs.ResidualValid.{HasTransform, turns_of, no_luma, to_residual, from_residual, residual_not_beyond, residual_within}
-use Rattle.cavlc_macroblock.specs.Macroblock.{IsIPcm}
+use Rattle.cavlc_macroblock.specs.Macroblock.{IsIPcm, skipped}
 use Rattle.cavlc_macroblock.specs.MacroblockLayer.{AreModes, no_pattern, IsPattern, IsQpDelta, IsLayer}
 use Rattle.cavlc_macroblock.specs.Reading.{IsPredicted, IsSent}
 use Rattle.cavlc_macroblock.proofs.IntraInter.{SendsNoInter, intra_sends, skipped_sends, HasNoInter, no_inter, inter_none, no_refs, no_mvds, no_indices}
@@ -149,13 +149,12 @@ no_samples mb e sizes h = all_same 0 384 mb.pcm sizes.pcm (λ k d below. omega (
 
 -- ---- macroblocks of which the residual is sent
 
-valid_layer : (shape : SliceShape) (bound : ℕ) (mb : Mb) → shape.mbaff ≡ false → is_i_pcm mb.kind ≡ false → is_beyond_mb bound mb ≡ false → IsMacroblock shape mb → IsLayer shape mb.kind mb.ref0 false bound mb
-valid_layer shape bound mb frame other none is =
+valid_layer : (shape : SliceShape) (bound : ℕ) (mb : Mb) → is_i_pcm mb.kind ≡ false → is_beyond_mb bound mb ≡ false → IsMacroblock shape mb → IsLayer shape mb.kind mb.ref0 mb.field bound mb
+valid_layer shape bound mb other none is =
     let sizes = is.sizes in
-    let field : mb.field ≡ false = unset mb.field shape.mbaff is.typed.field frame in
     let pcm : mb.pcm ≡ replicate 384 0 = no_samples mb (ap (λ b. if b then 255 else 0) other) sizes is.coded.pcm in
     record {
-      absent = ap (λ x. record mb { field = x }) field ∙ ap (λ x. record mb { field = false; pcm = x }) pcm;
+      absent = ap (λ x. record mb { pcm = x }) pcm;
       t8 = is.typed.t8;
       modes = to_modes (is_i_nxn mb.kind) mb.t8 mb.modes sizes.modes is.intra.modes;
       chroma_mode = to_chroma_mode mb.kind mb.chroma_mode other is.intra.chroma_mode;
@@ -172,19 +171,19 @@ zeros_test (suc n) = zeros_test n
 p_8x8_ref0 : (mb : Mb) (kind : MbKind) → kind ≡ kinds.P 3 → refs_of 0 mb ≡ replicate 4 0 → IsTrue (is_ref0 (record mb { kind = kind }))
 p_8x8_ref0 mb kind e zeros = ap (λ k. is_ref0 (record mb { kind = k })) e ∙ ap (λ xs. list_all (λ index. index == 0) xs) zeros
 
-pub ref0_is : (shape : SliceShape) (bound : ℕ) (mb : Mb) → IsLayer shape mb.kind mb.ref0 false bound mb → (mb.ref0 ≡ true → mb.kind ≡ kinds.P 3) → mb.ref0 ≡ true → IsTrue (is_ref0 mb)
-ref0_is shape bound mb is only set = p_8x8_ref0 mb mb.kind (only set) (no_indices mb.kind (active_refs shape mb) mb (subst (λ b. IsInter mb.kind b (active_refs shape mb) mb) set is.inter))
+pub ref0_is : (shape : SliceShape) (field : Bool) (bound : ℕ) (mb : Mb) → IsLayer shape mb.kind mb.ref0 field bound mb → (mb.ref0 ≡ true → mb.kind ≡ kinds.P 3) → mb.ref0 ≡ true → IsTrue (is_ref0 mb)
+ref0_is shape field bound mb is only set = p_8x8_ref0 mb mb.kind (only set) (no_indices mb.kind (active_refs shape mb) mb (subst (λ b. IsInter mb.kind b (active_refs shape mb) mb) set is.inter))
 
-layer_valid : (shape : SliceShape) (bound : ℕ) (mb : Mb) → is_kind_in shape.kind mb.kind ≡ true → (mb.ref0 ≡ true → mb.kind ≡ kinds.P 3) → is_i_pcm mb.kind ≡ false → IsLayer shape mb.kind mb.ref0 false bound mb → IsMacroblock shape mb
-layer_valid shape bound mb kind only other is =
-    let field : mb.field ≡ false = ap (λ (m : Mb). m.field) is.absent in
+layer_valid : (shape : SliceShape) (field : Bool) (bound : ℕ) (mb : Mb) → is_kind_in shape.kind mb.kind ≡ true → (mb.ref0 ≡ true → mb.kind ≡ kinds.P 3) → (field ≡ true → shape.mbaff ≡ true) → is_i_pcm mb.kind ≡ false → IsLayer shape mb.kind mb.ref0 field bound mb → IsMacroblock shape mb
+layer_valid shape field bound mb kind only pair other is =
+    let flag : mb.field ≡ field = ap (λ (m : Mb). m.field) is.absent in
     let pcm : mb.pcm ≡ replicate 384 0 = ap (λ (m : Mb). m.pcm) is.absent in
     let pattern = from_pattern (sends_pattern mb.kind) mb.pattern is.pattern in
     let delta = from_delta (sends_qp_delta mb.kind mb.pattern) mb.qp_delta is.qp_delta in
     let residual = from_residual mb bound (has_transform shape mb is.t8) is.residual in
     record {
       sizes = is.residual.sizes;
-      typed = record { kind = kind; ref0 = ref0_is shape bound mb is only; field = λ set. absurd (cc (field, set)); t8 = is.t8 };
+      typed = record { kind = kind; ref0 = ref0_is shape field bound mb is only; field = λ set. pair (sym flag ∙ set); t8 = is.t8 };
       intra = record {
         modes = from_modes (is_i_nxn mb.kind) mb.t8 mb.modes is.residual.sizes.modes is.modes;
         chroma_mode = from_chroma_mode mb.kind mb.chroma_mode other is.chroma_mode;
@@ -200,6 +199,9 @@ layer_valid shape bound mb kind only other is =
     }
 
 -- ---- I_PCM and skipped macroblocks, of which nothing but samples is sent
+
+abbrev pub bare_of : MbKind → Bool → List ℕ → Mb
+bare_of kind field samples = record (no_elements kind) { field = field; pcm = samples }
 
 abbrev pub IsBare : MbKind → Type 0
 IsBare kind = (kind ≡ Intra 25) ⊎ (kind ≡ Skip)
@@ -250,7 +252,6 @@ bounds_of shape mb (inr e) = subst (λ k. Bounds shape (record mb { kind = k }))
 -- what such a macroblock sends nothing of
 record IsPlain (mb : Mb) : Type 0 where
   ref0 : mb.ref0 ≡ false
-  field : mb.field ≡ false
   t8 : mb.t8 ≡ false
   modes : mb.modes ≡ replicate 16 0
   chroma_mode : mb.chroma_mode ≡ 0
@@ -272,8 +273,8 @@ ac_none mb x h sizes none within =
     let size = All-from_recursion (λ (blocks : List (List ℤ)). (length blocks ≡ 4) × AllByRecursion (λ block. length block ≡ 15) blocks) mb.chroma_ac sizes.chroma_ac.1 x [] (omega (arith, sizes.chroma_ac.0)) in
     zero_lists 4 15 (chroma_ac_bound mb) (ac_of x mb) none size.0 size.1 within
 
-plain : (shape : SliceShape) (mb : Mb) → shape.mbaff ≡ false → IsBare mb.kind → IsMacroblock shape mb → IsPlain mb
-plain shape mb frame bare is =
+plain : (shape : SliceShape) (mb : Mb) → IsBare mb.kind → IsMacroblock shape mb → IsPlain mb
+plain shape mb bare is =
     let sizes = is.sizes in
     let bounds : Bounds shape mb = bounds_of shape mb bare in
     let pattern : mb.pattern ≡ no_pattern = same_pattern mb.pattern (omega (arith, is.coded.pattern.luma, bounds.pattern 15)) (omega (arith, is.coded.pattern.chroma, bounds.pattern 2)) in
@@ -282,7 +283,6 @@ plain shape mb frame bare is =
     let no_ac : chroma_ac_bound mb ≡ 0 = ap (λ (p : Pattern). if p.chroma == 2 then 65535 else 0) none in
     record {
       ref0 = unset mb.ref0 (is_ref0 mb) is.typed.ref0 bounds.ref0;
-      field = unset mb.field shape.mbaff is.typed.field frame;
       t8 = unset mb.t8 (sends_t8 shape mb) is.typed.t8 bounds.t8;
       modes = zero_numbers 16 mb.modes sizes.modes (λ k h. omega (arith, is.intra.modes k h, bounds.modes k));
       chroma_mode = omega (arith, is.intra.chroma_mode, bounds.chroma_mode);
@@ -295,16 +295,15 @@ plain shape mb frame bare is =
       chroma_ac = same_two [] mb.chroma_ac (replicate 2 (replicate 4 (replicate 15 (pos 0)))) sizes.chroma_ac.0 refl (ac_none mb 0 (omega arith) sizes no_ac is.coded.chroma.cb_ac) (ac_none mb 1 (omega arith) sizes no_ac is.coded.chroma.cr_ac);
     }
 
-plain_same : (mb : Mb) → IsPlain mb → mb ≡ record (no_elements mb.kind) { pcm = mb.pcm }
+plain_same : (mb : Mb) → IsPlain mb → mb ≡ bare_of mb.kind mb.field mb.pcm
 plain_same mb is =
-    let a : Mb = record mb { ref0 = false; field = false; t8 = false; modes = replicate 16 0; chroma_mode = 0 } in
+    let a : Mb = record mb { ref0 = false; t8 = false; modes = replicate 16 0; chroma_mode = 0 } in
     let b : Mb = record a { subs = replicate 4 0; refs = no_refs; mvd = no_mvds } in
     let c : Mb = record b { pattern = no_pattern; qp_delta = pos 0 } in
     ap (λ x. record mb { ref0 = x }) is.ref0
-    ∙ ap (λ x. record mb { ref0 = false; field = x }) is.field
-    ∙ ap (λ x. record mb { ref0 = false; field = false; t8 = x }) is.t8
-    ∙ ap (λ x. record mb { ref0 = false; field = false; t8 = false; modes = x }) is.modes
-    ∙ ap (λ x. record mb { ref0 = false; field = false; t8 = false; modes = replicate 16 0; chroma_mode = x }) is.chroma_mode
+    ∙ ap (λ x. record mb { ref0 = false; t8 = x }) is.t8
+    ∙ ap (λ x. record mb { ref0 = false; t8 = false; modes = x }) is.modes
+    ∙ ap (λ x. record mb { ref0 = false; t8 = false; modes = replicate 16 0; chroma_mode = x }) is.chroma_mode
     ∙ ap (λ x. record a { subs = x }) is.inter.subs
     ∙ ap (λ x. record a { subs = replicate 4 0; refs = x }) is.inter.refs
     ∙ ap (λ x. record a { subs = replicate 4 0; refs = no_refs; mvd = x }) is.inter.mvd
@@ -323,16 +322,16 @@ no_more n k bound = rw (zero_at n k) (omega arith)
 zero_lists_within : (bound m n : ℕ) → All (IsWithin bound) (replicate m (replicate n (pos 0)))
 zero_lists_within bound m n = All-replicate (IsWithin bound) m (replicate n (pos 0)) (zeros_within bound n)
 
-zero_quarter : (kind : MbKind) (samples : List ℕ) (q : ℕ) → q < 4 → IsQuarterCoded (record (no_elements kind) { pcm = samples }) q
-zero_quarter kind samples q h =
-    let none : quarter_of (record (no_elements kind) { pcm = samples }) q ≡ replicate 64 (pos 0) = get_or-replicate 4 q (replicate 64 (pos 0)) [] h in
+zero_quarter : (kind : MbKind) (field : Bool) (samples : List ℕ) (q : ℕ) → q < 4 → IsQuarterCoded (bare_of kind field samples) q
+zero_quarter kind field samples q h =
+    let none : quarter_of (bare_of kind field samples) q ≡ replicate 64 (pos 0) = get_or-replicate 4 q (replicate 64 (pos 0)) [] h in
     record {
       levels = subst (IsWithin _) (sym none) (zeros_within _ 64);
       last = λ k lt. rw (none, get_or-replicate 64 (16 * k + 15) (pos 0) (pos 0) (omega arith)) (omega arith);
     }
 
-bare_sizes : (kind : MbKind) (samples : List ℕ) → length samples ≡ 384 → HasSizes (record (no_elements kind) { pcm = samples })
-bare_sizes kind samples count = record {
+bare_sizes : (kind : MbKind) (field : Bool) (samples : List ℕ) → length samples ≡ 384 → HasSizes (bare_of kind field samples)
+bare_sizes kind field samples count = record {
   modes = refl;
   subs = refl;
   refs = (refl, (refl, (refl, tt)));
@@ -348,76 +347,88 @@ bare_sizes kind samples count = record {
     each Is x h zero = tt
     each Is x h (suc n) = (h, each Is x h n)
 
-bare_valid : (shape : SliceShape) (kind : MbKind) (samples : List ℕ) → IsBare kind → is_kind_in shape.kind kind ≡ true → length samples ≡ 384 → All (λ sample. sample ≤ sample_bound kind) samples → IsMacroblock shape (record (no_elements kind) { pcm = samples })
-bare_valid shape kind samples bare in_slice count small =
-    let mb : Mb = record (no_elements kind) { pcm = samples } in
+bare_valid : (shape : SliceShape) (kind : MbKind) (field : Bool) (samples : List ℕ) → IsBare kind → is_kind_in shape.kind kind ≡ true → (field ≡ true → shape.mbaff ≡ true) → length samples ≡ 384 → All (λ sample. sample ≤ sample_bound kind) samples → IsMacroblock shape (bare_of kind field samples)
+bare_valid shape kind field samples bare in_slice pair count small =
+    let mb : Mb = bare_of kind field samples in
     record {
-      sizes = bare_sizes kind samples count;
-      typed = record { kind = in_slice; ref0 = λ h. absurd cc; field = λ h. absurd cc; t8 = λ h. absurd cc };
+      sizes = bare_sizes kind field samples count;
+      typed = record { kind = in_slice; ref0 = λ h. absurd cc; field = pair; t8 = λ h. absurd cc };
       intra = record { modes = λ k h. no_more 16 k _; chroma_mode = omega arith };
       inter = from_inter shape mb (inter_none kind false (active_refs shape mb) mb (bare_inter kind bare) (record { subs = refl; refs = refl; mvd = refl }));
       coded = record {
         pattern = record { luma = omega arith; chroma = omega arith };
         qp_delta = record { magnitude = omega arith; greatest = record { le = tt } };
-        luma = record { dc = zeros_within _ 16; quarters = λ q h. zero_quarter kind samples q h };
+        luma = record { dc = zeros_within _ 16; quarters = λ q h. zero_quarter kind field samples q h };
         chroma = record { dc = zero_lists_within _ 2 4; cb_ac = zero_lists_within _ 4 15; cr_ac = zero_lists_within _ 4 15 };
         pcm = small;
       };
     }
 
-bare_not_beyond : (bound : ℕ) (kind : MbKind) (samples : List ℕ) → is_beyond_mb bound (record (no_elements kind) { pcm = samples }) ≡ false
+bare_not_beyond : (bound : ℕ) (kind : MbKind) (field : Bool) (samples : List ℕ) → is_beyond_mb bound (bare_of kind field samples) ≡ false
 unfolding blocks.sixteen
-bare_not_beyond bound kind samples = refl
+bare_not_beyond bound kind field samples = refl
 
 -- ---- both ways
 
-valid_i_pcm : (shape : SliceShape) (mb : Mb) → shape.mbaff ≡ false → mb.kind ≡ Intra 25 → IsMacroblock shape mb → IsIPcm mb
-valid_i_pcm shape mb frame kind is = record {
-  elements = plain_same mb (plain shape mb frame (inl kind) is) ∙ ap (λ k. record (no_elements k) { pcm = mb.pcm }) kind;
+valid_i_pcm : (shape : SliceShape) (mb : Mb) → mb.kind ≡ Intra 25 → IsMacroblock shape mb → IsIPcm mb.field mb
+valid_i_pcm shape mb kind is = record {
+  elements = plain_same mb (plain shape mb (inl kind) is) ∙ ap (λ k. bare_of k mb.field mb.pcm) kind;
   samples = record { count = is.sizes.pcm; bytes = λ k d below. omega (arith, is.coded.pcm k d below, ap sample_bound kind) };
 }
 
-pub valid_sent : (shape : SliceShape) (bound : ℕ) (mb : Mb) → shape.mbaff ≡ false → is_skip mb.kind ≡ false → is_beyond_mb bound mb ≡ false → IsMacroblock shape mb → IsSent shape bound mb
-valid_sent shape bound mb frame sent none is = record {
+pub valid_sent : (shape : SliceShape) (bound : ℕ) (mb : Mb) → is_skip mb.kind ≡ false → is_beyond_mb bound mb ≡ false → IsMacroblock shape mb → IsSent shape mb.field bound mb
+valid_sent shape bound mb sent none is = record {
   kind = is.typed.kind;
   sent = sent;
   ref0 = λ set. ref0_kind mb mb.kind (is.typed.ref0 set);
+  pair = is.typed.field;
   elements = by (is_i_pcm mb.kind) refl;
 }
   where
-    by : (b : Bool) → is_i_pcm mb.kind ≡ b → IsIPcm mb ⊎ IsPredicted shape bound mb
-    by true e = inl (valid_i_pcm shape mb frame (named_pcm mb.kind e) is)
-    by false e = inr (e, valid_layer shape bound mb frame e none is)
+    by : (b : Bool) → is_i_pcm mb.kind ≡ b → IsIPcm mb.field mb ⊎ IsPredicted shape mb.field bound mb
+    by true e = inl (valid_i_pcm shape mb (named_pcm mb.kind e) is)
+    by false e = inr (e, valid_layer shape bound mb e none is)
 
-pub sent_valid : (shape : SliceShape) (bound : ℕ) (mb : Mb) → IsSent shape bound mb → IsMacroblock shape mb
-sent_valid shape bound mb is = by is.elements
+pub sent_valid : (shape : SliceShape) (field : Bool) (bound : ℕ) (mb : Mb) → IsSent shape field bound mb → IsMacroblock shape mb
+sent_valid shape field bound mb is = by is.elements
   where
-    by : IsIPcm mb ⊎ IsPredicted shape bound mb → IsMacroblock shape mb
+    by : IsIPcm field mb ⊎ IsPredicted shape field bound mb → IsMacroblock shape mb
     by (inl pcm) =
         let kind : mb.kind ≡ Intra 25 = ap (λ (m : Mb). m.kind) pcm.elements in
-        subst (λ (m : Mb). IsMacroblock shape m) (sym pcm.elements) (bare_valid shape (Intra 25) mb.pcm (inl refl) (subst (λ k. is_kind_in shape.kind k ≡ true) kind is.kind) pcm.samples.count pcm.samples.bytes)
-    by (inr other) = layer_valid shape bound mb is.kind is.ref0 other.0 other.1
+        subst (λ (m : Mb). IsMacroblock shape m) (sym pcm.elements) (bare_valid shape (Intra 25) field mb.pcm (inl refl) (subst (λ k. is_kind_in shape.kind k ≡ true) kind is.kind) is.pair pcm.samples.count pcm.samples.bytes)
+    by (inr other) = layer_valid shape field bound mb is.kind is.ref0 is.pair other.0 other.1
 
-pub sent_sizes : (shape : SliceShape) (bound : ℕ) (mb : Mb) → IsSent shape bound mb → HasSizes mb × (is_beyond_mb bound mb ≡ false)
-sent_sizes shape bound mb is = by is.elements
+-- it has the flag that it is read with
+pub sent_field : (shape : SliceShape) (field : Bool) (bound : ℕ) (mb : Mb) → IsSent shape field bound mb → mb.field ≡ field
+sent_field shape field bound mb is = by is.elements
   where
-    by : IsIPcm mb ⊎ IsPredicted shape bound mb → HasSizes mb × (is_beyond_mb bound mb ≡ false)
-    by (inl pcm) = (subst HasSizes (sym pcm.elements) (bare_sizes (Intra 25) mb.pcm pcm.samples.count), ap (is_beyond_mb bound) pcm.elements ∙ bare_not_beyond bound (Intra 25) mb.pcm)
+    by : IsIPcm field mb ⊎ IsPredicted shape field bound mb → mb.field ≡ field
+    by (inl pcm) = ap (λ (m : Mb). m.field) pcm.elements
+    by (inr other) = ap (λ (m : Mb). m.field) other.1.absent
+
+pub sent_sizes : (shape : SliceShape) (field : Bool) (bound : ℕ) (mb : Mb) → IsSent shape field bound mb → HasSizes mb × (is_beyond_mb bound mb ≡ false)
+sent_sizes shape field bound mb is = by is.elements
+  where
+    by : IsIPcm field mb ⊎ IsPredicted shape field bound mb → HasSizes mb × (is_beyond_mb bound mb ≡ false)
+    by (inl pcm) = (subst HasSizes (sym pcm.elements) (bare_sizes (Intra 25) field mb.pcm pcm.samples.count), ap (is_beyond_mb bound) pcm.elements ∙ bare_not_beyond bound (Intra 25) field mb.pcm)
     by (inr other) = (other.1.residual.sizes, residual_not_beyond (is_i_16x16 mb.kind) (pattern_of mb) bound mb other.1.residual)
 
-pub sent_ref0 : (shape : SliceShape) (bound : ℕ) (mb : Mb) → IsSent shape bound mb → mb.ref0 ≡ true → IsTrue (is_ref0 mb)
-sent_ref0 shape bound mb is set = (sent_valid shape bound mb is).typed.ref0 set
+pub sent_ref0 : (shape : SliceShape) (field : Bool) (bound : ℕ) (mb : Mb) → IsSent shape field bound mb → mb.ref0 ≡ true → IsTrue (is_ref0 mb)
+sent_ref0 shape field bound mb is set = (sent_valid shape field bound mb is).typed.ref0 set
 
 -- ---- skipped macroblocks
 
-pub valid_skipped : (shape : SliceShape) (mb : Mb) → shape.mbaff ≡ false → mb.kind ≡ Skip → IsMacroblock shape mb → (mb ≡ no_elements Skip) × (is_kind_in shape.kind Skip ≡ true)
-valid_skipped shape mb frame kind is =
-    let pcm : mb.pcm ≡ replicate 384 0 = no_samples mb (ap sample_bound kind) is.sizes is.coded.pcm in
-    (plain_same mb (plain shape mb frame (inr kind) is) ∙ ap (λ k. record (no_elements k) { pcm = mb.pcm }) kind ∙ ap (λ x. record (no_elements Skip) { pcm = x }) pcm, subst (λ k. is_kind_in shape.kind k ≡ true) kind is.typed.kind)
+pub valid_skipped : (shape : SliceShape) (mb : Mb) → mb.kind ≡ Skip → IsMacroblock shape mb → (mb ≡ skipped mb.field) × (is_kind_in shape.kind Skip ≡ true) × (mb.field ≡ true → shape.mbaff ≡ true)
+valid_skipped shape mb kind is =
+    let pcm : mb.pcm ≡ replicate 384 0 = no_samples mb (ap sample_bound kind) is.sizes is.coded.pcm in (
+      plain_same mb (plain shape mb (inr kind) is) ∙ ap (λ k. bare_of k mb.field mb.pcm) kind ∙ ap (bare_of Skip mb.field) pcm,
+      subst (λ k. is_kind_in shape.kind k ≡ true) kind is.typed.kind,
+      is.typed.field,
+    )
 
-pub skipped_valid : (shape : SliceShape) (mb : Mb) → mb ≡ no_elements Skip → is_kind_in shape.kind Skip ≡ true → IsMacroblock shape mb
-skipped_valid shape mb same in_slice =
-    subst (λ (m : Mb). IsMacroblock shape m) (sym same) (bare_valid shape Skip (replicate 384 0) (inr refl) in_slice refl (All-replicate (λ sample. sample ≤ 0) 384 0 (omega arith)))
+pub skipped_valid : (shape : SliceShape) (field : Bool) (mb : Mb) → mb ≡ skipped field → is_kind_in shape.kind Skip ≡ true → (field ≡ true → shape.mbaff ≡ true) → IsMacroblock shape mb
+skipped_valid shape field mb same in_slice pair =
+    subst (λ (m : Mb). IsMacroblock shape m) (sym same) (bare_valid shape Skip field (replicate 384 0) (inr refl) in_slice pair refl (All-replicate (λ sample. sample ≤ 0) 384 0 (omega arith)))
 
-pub skipped_levels : (bound : ℕ) → HasSizes (no_elements Skip) × (is_beyond_mb bound (no_elements Skip) ≡ false)
-skipped_levels bound = (bare_sizes Skip (replicate 384 0) refl, bare_not_beyond bound Skip (replicate 384 0))
+pub skipped_levels : (field : Bool) (bound : ℕ) → HasSizes (skipped field) × (is_beyond_mb bound (skipped field) ≡ false)
+skipped_levels field bound = (bare_sizes Skip field (replicate 384 0) refl, bare_not_beyond bound Skip field (replicate 384 0))

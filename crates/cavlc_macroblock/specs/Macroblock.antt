@@ -5,20 +5,24 @@ use Rattle.cavlc_mb_residual.specs.declared.counts.Around.{Around}
 use Rattle.h264_types.specs.Kind.{is_i_pcm}
 use Rattle.h264_types.specs.Macroblock.{no_elements}
 use Rattle.h264_types.specs.declared.macroblock.Mb.{Mb}
-use Rattle.h264_types.specs.declared.macroblock.MbKind.TheVariants.{Intra}
+use Rattle.h264_types.specs.declared.macroblock.MbKind.TheVariants.{Intra, Skip}
 use Rattle.h264_types.specs.declared.slice_shape.SliceShape.{SliceShape}
 use Rattle.pcm_samples.specs.Alignment.{alignment}
 use Rattle.pcm_samples.specs.Samples.{AreSamples}
 use Rattle.cavlc_macroblock.specs.MacroblockLayer.{layer_text}
 use Rattle.cavlc_macroblock.specs.MbType.{type_text}
 
--- an I_PCM macroblock of these samples
-abbrev pub i_pcm : List ℕ → Mb
-i_pcm samples = record (no_elements (Intra 25)) { pcm = samples }
+-- a skipped macroblock with this mb_field_decoding_flag, which stands before mb_type or is inferred
+abbrev pub skipped : Bool → Mb
+skipped field = record (no_elements Skip) { field = field }
 
--- the macroblock is I_PCM: it has samples, and no other element
-pub record IsIPcm (mb : Mb) : Type 0 where
-  pub elements : mb ≡ i_pcm mb.pcm
+-- an I_PCM macroblock with this mb_field_decoding_flag, of these samples
+abbrev pub i_pcm : Bool → List ℕ → Mb
+i_pcm field samples = record (no_elements (Intra 25)) { field = field; pcm = samples }
+
+-- the macroblock is I_PCM: it has its pair's flag and samples, and no other element
+pub record IsIPcm (field : Bool) (mb : Mb) : Type 0 where
+  pub elements : mb ≡ i_pcm field mb.pcm
   pub samples : AreSamples mb.pcm
 
 -- pcm_sample_luma and pcm_sample_chroma, 8 bits each, behind the alignment

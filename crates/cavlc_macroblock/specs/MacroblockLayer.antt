@@ -78,9 +78,11 @@ with_intra mb other = record mb { t8 = other.t8; modes = other.modes; chroma_mod
 abbrev pub prediction_text : SliceShape → MbKind → Bool → Mb → List Bool
 prediction_text shape kind ref0 mb = intra_text shape kind mb ++ inter_text kind ref0 (active_refs shape mb) mb
 
-pub record IsPrediction (shape : SliceShape) (kind : MbKind) (ref0 : Bool) (mb : Mb) : Type 0 where
+-- `field` is mb_field_decoding_flag, which stands before mb_type
+pub record IsPrediction (shape : SliceShape) (kind : MbKind) (ref0 field : Bool) (mb : Mb) : Type 0 where
   pub absent : mb ≡ record (no_elements kind) {
     ref0 = ref0;
+    field = field;
     t8 = mb.t8;
     modes = mb.modes;
     chroma_mode = mb.chroma_mode;
@@ -124,8 +126,7 @@ with_coding mb other = record mb {
 unfoldable pub layer_text : SliceShape → Around → MbKind → Bool → Mb → List Bool
 layer_text shape around kind ref0 mb = prediction_text shape kind ref0 mb ++ coding_text shape around kind mb
 
--- A macroblock of this type, in its range where an element is sent, else absent. `field` is mb_field_decoding_flag, which
--- stands before mb_type.
+-- a macroblock of this type and mb_field_decoding_flag, in its range where an element is sent, else absent
 pub record IsLayer (shape : SliceShape) (kind : MbKind) (ref0 field : Bool) (bound : ℕ) (mb : Mb) : Type 0 where
   pub absent : mb ≡ record (no_elements kind) {
     ref0 = ref0;

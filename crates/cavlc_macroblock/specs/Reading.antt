@@ -18,27 +18,28 @@ use Rattle.cavlc_macroblock.specs.Macroblock.{IsIPcm, i_pcm, macroblock_text}
 unfoldable pub samples_at : Cursor → Option (List ℕ × Cursor)
 samples_at c = many_at 384 (element_at (U 8)) c
 
--- an I_PCM macroblock behind its mb_type
-unfoldable pub pcm_at : Cursor → Option (Mb × Cursor)
-pcm_at c =
+-- an I_PCM macroblock with this mb_field_decoding_flag behind its mb_type
+unfoldable pub pcm_at : Bool → Cursor → Option (Mb × Cursor)
+pcm_at field c =
     alignment_at c >>= λ aligned.
     samples_at aligned.1 >>= λ samples.
-    Some (i_pcm samples.0, samples.1)
+    Some (i_pcm field samples.0, samples.1)
 
--- the macroblocks of a frame or field outside MBAFF that aren't I_PCM and have a text with no level_prefix above the bound
-abbrev pub IsPredicted : SliceShape → ℕ → Mb → Type 0
-IsPredicted shape bound mb = (is_i_pcm mb.kind ≡ false) × IsLayer shape mb.kind mb.ref0 false bound mb
+-- the macroblocks with this mb_field_decoding_flag that aren't I_PCM and have a text with no level_prefix above the bound
+abbrev pub IsPredicted : SliceShape → Bool → ℕ → Mb → Type 0
+IsPredicted shape field bound mb = (is_i_pcm mb.kind ≡ false) × IsLayer shape mb.kind mb.ref0 field bound mb
 
--- The macroblocks that have a text, outside MBAFF, with no level_prefix above the bound: those of the types of the slice
--- that aren't skipped. Only P_8x8 is sent as P_8x8ref0.
-pub record IsSent (shape : SliceShape) (bound : ℕ) (mb : Mb) : Type 0 where
+-- The macroblocks with this mb_field_decoding_flag that have a text with no level_prefix above the bound: those of the
+-- types of the slice that aren't skipped. Only P_8x8 is sent as P_8x8ref0, and only an MBAFF frame has pairs of fields.
+pub record IsSent (shape : SliceShape) (field : Bool) (bound : ℕ) (mb : Mb) : Type 0 where
   pub kind : is_kind_in shape.kind mb.kind ≡ true
   pub sent : is_skip mb.kind ≡ false
   pub ref0 : mb.ref0 ≡ true → mb.kind ≡ P 3
-  pub elements : IsIPcm mb ⊎ IsPredicted shape bound mb
+  pub pair : field ≡ true → shape.mbaff ≡ true
+  pub elements : IsIPcm field mb ⊎ IsPredicted shape field bound mb
 
 -- what was answered at a place: the macroblock that was filled in, whose text was taken, or that no macroblock's text
 -- begins the bits left
-abbrev pub ReadsMacroblock : SliceShape → Around → ℕ → Cursor → Option (Unit {0}) → Mb → Cursor → Type 0
-ReadsMacroblock shape around bound before (Some x) mb after = IsSent shape bound mb × Takes (macroblock_text shape around before.taken mb) before after
-ReadsMacroblock shape around bound before None mb after = (v : Mb) (more : List Bool) → IsSent shape bound v → before.left ≢ macroblock_text shape around before.taken v ++ more
+abbrev pub ReadsMacroblock : SliceShape → Bool → Around → ℕ → Cursor → Option (Unit {0}) → Mb → Cursor → Type 0
+ReadsMacroblock shape field around bound before (Some x) mb after = IsSent shape field bound mb × Takes (macroblock_text shape around before.taken mb) before after
+ReadsMacroblock shape field around bound before None mb after = (v : Mb) (more : List Bool) → IsSent shape field bound v → before.left ≢ macroblock_text shape around before.taken v ++ more

@@ -4,7 +4,7 @@ use Rattle.cavlc_macroblock.proofs.LayerChain.{coding_of_layer}
 use Rattle.cavlc_macroblock.proofs.layer.write_layer.Goals as goal
 
 pub write_coding-requires-clause-sent : goal.write_coding-requires-clause-sent
-write_coding-requires-clause-sent g c = coding_of_layer c.args.shape.now 20 c.args.mb.now c.requires.layer
+write_coding-requires-clause-sent g c = coding_of_layer c.args.shape.now c.args.mb.now.field 20 c.args.mb.now c.requires.layer
 
 pub returns-in_err-write_prediction : goal.returns-in_err-write_prediction
 unfolding layer_text

@@ -1,4 +1,4 @@
-use Rattle.std.proofs.Common.{◌≡◌, ℕ, List, Some, None, refl, sym, ap}
+use Rattle.std.proofs.Common.{◌≡◌, ℕ, Bool, List, Some, None, refl, sym, ap}
 use Rattle.bit_texts.specs.Cursor.{Cursor}
 use Rattle.bit_texts.specs.Bits.{bits_of}
 use Rattle.bit_texts.proofs.Inverting.{Gives-from_Reads, Keeps-from_kept}
@@ -12,13 +12,13 @@ use Rattle.pcm_samples.specs.Alignment.{alignment_at}
 use Rattle.cavlc_macroblock.proofs.Layers.{samples_inverts}
 use Rattle.cavlc_macroblock.proofs.macroblock.read_pcm.Goals as goal
 
-without_samples : (c d : Cursor) → alignment_at c ≡ Some (tt, d) → samples_at d ≡ None → pcm_at c ≡ None
+without_samples : (field : Bool) (c d : Cursor) → alignment_at c ≡ Some (tt, d) → samples_at d ≡ None → pcm_at field c ≡ None
 unfolding pcm_at
-without_samples c d aligned none = rw (aligned, none) refl
+without_samples field c d aligned none = rw (aligned, none) refl
 
-with_samples : (c d e : Cursor) (none : Mb) (samples : List ℕ) → none ≡ no_elements (Intra 25) → alignment_at c ≡ Some (tt, d) → samples_at d ≡ Some (samples, e) → pcm_at c ≡ Some (record none { pcm = samples }, e)
+with_samples : (field : Bool) (c d e : Cursor) (none : Mb) (samples : List ℕ) → none ≡ no_elements (Intra 25) → alignment_at c ≡ Some (tt, d) → samples_at d ≡ Some (samples, e) → pcm_at field c ≡ Some (record none { field = field; pcm = samples }, e)
 unfolding pcm_at
-with_samples c d e none samples is aligned some = rw (aligned, some) (ap (λ (mb : Mb). Some (record mb { pcm = samples }, e)) (sym is))
+with_samples field c d e none samples is aligned some = rw (aligned, some) (ap (λ (mb : Mb). Some (record mb { field = field; pcm = samples }, e)) (sym is))
 
 pub returns-in_default : goal.returns-in_default
 returns-in_default g c =
@@ -26,7 +26,7 @@ returns-in_default g c =
     let after = c.read_samples.new.bits in
     let at = place_in g.B.BitSource.taken g.B.BitSource.left in
     let none : samples_at (at before) ≡ None = Gives-from_Reads AreSamples (λ n. bits_of) samples_at samples_inverts None (at before) (at after) c.in_default.ensures.reads (Keeps-from_kept _ _ _ _ c.in_default.ensures.kept) in
-    without_samples _ (at before) c.in_ok-read_alignment.ensures none
+    without_samples c.args.field _ (at before) c.in_ok-read_alignment.ensures none
 
 pub returns : goal.returns
 returns g c =
@@ -34,4 +34,4 @@ returns g c =
     let after = c.read_samples.new.bits in
     let at = place_in g.B.BitSource.taken g.B.BitSource.left in
     let some : samples_at (at before) ≡ Some (c.read_samples.new.samples, at after) = Gives-from_Reads AreSamples (λ n. bits_of) samples_at samples_inverts (Some c.read_samples.new.samples) (at before) (at after) c.in-Some.ensures.reads (Keeps-from_kept _ _ _ _ c.in-Some.ensures.kept) in
-    with_samples _ (at before) (at after) c.without_elements.result c.read_samples.new.samples c.without_elements.ensures c.in_ok-read_alignment.ensures some
+    with_samples c.args.field _ (at before) (at after) c.without_elements.result c.read_samples.new.samples c.without_elements.ensures c.in_ok-read_alignment.ensures some

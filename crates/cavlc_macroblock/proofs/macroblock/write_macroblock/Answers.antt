@@ -6,7 +6,7 @@ use Rattle.cavlc_macroblock.proofs.Layers.{sent_layer, written_pcm, written_laye
 use Rattle.cavlc_macroblock.proofs.macroblock.write_macroblock.Goals as goal
 
 pub write_layer-requires-clause-layer : goal.write_layer-requires-clause-layer
-write_layer-requires-clause-layer g c = sent_layer c.args.shape.now 20 c.args.mb.now (sym c.if-is_i_pcm.ensures) c.requires.sent
+write_layer-requires-clause-layer g c = sent_layer c.args.shape.now c.args.mb.now.field 20 c.args.mb.now (sym c.if-is_i_pcm.ensures) c.requires.sent
 
 pub returns-in_err-write_type : goal.returns-in_err-write_type
 unfolding macroblock_text
