@@ -106,36 +106,36 @@ zero_of : (n : ℕ) → nat_lt 0 n ≡ false → n ≡ 0
 zero_of n e = omega (arith, ltb-false 0 n e)
 
 general : (shape : SliceShape) (ms : List Mb) (at : ℕ) (mb : Mb) (count : Mb → ℕ → ℕ) (place : At) (own : List ℕ) (column row : ℕ → At)
-    → slice_get ms at ≡ Some mb → Stands count mb own place column row → list_nC count shape ms at place ≡ nC (sides_in count shape ms at column row) own place
+    → slice_get ms at ≡ Some mb → Stands count mb own place column row → list_nC count shape ms at place ≡ nC (sides_in count shape ms at (field_at ms at) column row) own place
 unfolding nC
 general shape ms at mb count place own column row is stands =
     let field : Bool = field_at ms at in
     ap (λ o. mean o (option_map (count_at count ms) (above_of shape ms at field place))) (left (nat_lt 0 (x_of place)) refl)
-    ∙ ap (λ o. mean (left_count (sides_in count shape ms at column row) own place) o) (above (nat_lt 0 (y_of place)) refl)
+    ∙ ap (λ o. mean (left_count (sides_in count shape ms at (field_at ms at) column row) own place) o) (above (nat_lt 0 (y_of place)) refl)
   where
-    left : (b : Bool) → nat_lt 0 (x_of place) ≡ b → option_map (count_at count ms) (left_of shape ms at (field_at ms at) place) ≡ left_count (sides_in count shape ms at column row) own place
+    left : (b : Bool) → nat_lt 0 (x_of place) ≡ b → option_map (count_at count ms) (left_of shape ms at (field_at ms at) place) ≡ left_count (sides_in count shape ms at (field_at ms at) column row) own place
     left true e =
         ap (option_map (count_at count ms)) (own_left shape ms at (field_at ms at) place e)
         ∙ ap (λ o. Some (option_map_or (λ (m : Mb). count m (covering place (x_of place - 1) (y_of place))) o 0)) is
         ∙ ap Some (sym (stands.left e))
-        ∙ ap (λ b. cond b (Some (slice_index_or own (covering place (x_of place - 1) (y_of place)) 0)) (option_map (λ xs. slice_index_or xs (y_of place / 4) 0) (sides_in count shape ms at column row).left)) (sym e)
+        ∙ ap (λ b. cond b (Some (slice_index_or own (covering place (x_of place - 1) (y_of place)) 0)) (option_map (λ xs. slice_index_or xs (y_of place / 4) 0) (sides_in count shape ms at (field_at ms at) column row).left)) (sym e)
     left false e =
         side_tells (count_at count ms) (left_of shape ms at (field_at ms at)) (left_spot shape ms at (field_at ms at)) (left_source shape at) column (y_of place / 4) place
         (ap (left_of shape ms at (field_at ms at)) (stands.column_is e) ∙ left_found shape ms at (field_at ms at) place (zero_of (x_of place) e) ∙ ap (λ p. option_map (left_spot shape ms at (field_at ms at) p) (left_source shape at)) (sym (stands.column_is e)))
         (left_found shape ms at (field_at ms at) Whole refl) stands.inside.1 (stands.column_is e)
-        ∙ ap (λ b. cond b (Some (slice_index_or own (covering place (x_of place - 1) (y_of place)) 0)) (option_map (λ xs. slice_index_or xs (y_of place / 4) 0) (sides_in count shape ms at column row).left)) (sym e)
+        ∙ ap (λ b. cond b (Some (slice_index_or own (covering place (x_of place - 1) (y_of place)) 0)) (option_map (λ xs. slice_index_or xs (y_of place / 4) 0) (sides_in count shape ms at (field_at ms at) column row).left)) (sym e)
 
-    above : (b : Bool) → nat_lt 0 (y_of place) ≡ b → option_map (count_at count ms) (above_of shape ms at (field_at ms at) place) ≡ above_count (sides_in count shape ms at column row) own place
+    above : (b : Bool) → nat_lt 0 (y_of place) ≡ b → option_map (count_at count ms) (above_of shape ms at (field_at ms at) place) ≡ above_count (sides_in count shape ms at (field_at ms at) column row) own place
     above true e =
         ap (option_map (count_at count ms)) (own_above shape ms at (field_at ms at) place e)
         ∙ ap (λ o. Some (option_map_or (λ (m : Mb). count m (covering place (x_of place) (y_of place - 1))) o 0)) is
         ∙ ap Some (sym (stands.above e))
-        ∙ ap (λ b. cond b (Some (slice_index_or own (covering place (x_of place) (y_of place - 1)) 0)) (option_map (λ xs. slice_index_or xs (x_of place / 4) 0) (sides_in count shape ms at column row).above)) (sym e)
+        ∙ ap (λ b. cond b (Some (slice_index_or own (covering place (x_of place) (y_of place - 1)) 0)) (option_map (λ xs. slice_index_or xs (x_of place / 4) 0) (sides_in count shape ms at (field_at ms at) column row).above)) (sym e)
     above false e =
         side_tells (count_at count ms) (above_of shape ms at (field_at ms at)) (above_spot shape ms at (field_at ms at)) (above_source shape at (field_at ms at)) row (x_of place / 4) place
         (ap (above_of shape ms at (field_at ms at)) (stands.row_is e) ∙ above_found shape ms at (field_at ms at) place (zero_of (y_of place) e) ∙ ap (λ p. option_map (above_spot shape ms at (field_at ms at) p) (above_source shape at (field_at ms at))) (sym (stands.row_is e)))
         (above_found shape ms at (field_at ms at) Whole refl) stands.inside.0 (stands.row_is e)
-        ∙ ap (λ b. cond b (Some (slice_index_or own (covering place (x_of place) (y_of place - 1)) 0)) (option_map (λ xs. slice_index_or xs (x_of place / 4) 0) (sides_in count shape ms at column row).above)) (sym e)
+        ∙ ap (λ b. cond b (Some (slice_index_or own (covering place (x_of place) (y_of place - 1)) 0)) (option_map (λ xs. slice_index_or xs (x_of place / 4) 0) (sides_in count shape ms at (field_at ms at) column row).above)) (sym e)
 
 -- ---- the places of a macroblock, by one test of all of them
 
@@ -162,7 +162,7 @@ luma_stands mb n h = record {
   inside = (ltb-true _ 4 (all_below-at (λ k. nat_lt (x_of (Luma4 k) / 4) 4) 16 n refl h), ltb-true _ 4 (all_below-at (λ k. nat_lt (y_of (Luma4 k) / 4) 4) 16 n refl h));
 }
 
-get_or-four : (f : ℕ → ℕ) (i : ℕ) → i < 4 → get_or (four f) i 0 ≡ f i
+pub get_or-four : (f : ℕ → ℕ) (i : ℕ) → i < 4 → get_or (four f) i 0 ≡ f i
 get_or-four f zero h = refl
 get_or-four f (suc zero) h = refl
 get_or-four f (suc (suc zero)) h = refl
@@ -184,18 +184,18 @@ chroma_stands comp mb n h = record {
   inside = (ltb-true _ 4 (all_below-at (λ k. nat_lt (x_of (Chroma4 k) / 4) 4) 4 n refl h), ltb-true _ 4 (all_below-at (λ k. nat_lt (y_of (Chroma4 k) / 4) 4) 4 n refl h));
 }
 
-pub luma_nC-around : (shape : SliceShape) (ms : List Mb) (at : ℕ) (mb : Mb) (n : ℕ) → slice_get ms at ≡ Some mb → n < 16 → luma_nC shape ms at n ≡ nC (around_of shape ms at).luma (take n (counts_of mb).luma) (Luma4 n)
+pub luma_nC-around : (shape : SliceShape) (ms : List Mb) (at : ℕ) (mb : Mb) (n : ℕ) → slice_get ms at ≡ Some mb → n < 16 → luma_nC shape ms at n ≡ nC (around_of shape ms at (field_at ms at)).luma (take n (counts_of mb).luma) (Luma4 n)
 luma_nC-around shape ms at mb n is below = general shape ms at mb luma_count (Luma4 n) (take n (sixteen (luma_count mb))) luma_column luma_row is (luma_stands mb n below)
 
-pub cb_nC-around : (shape : SliceShape) (ms : List Mb) (at : ℕ) (mb : Mb) (n : ℕ) → slice_get ms at ≡ Some mb → n < 4 → chroma_nC shape ms at 0 n ≡ nC (around_of shape ms at).cb (take n (counts_of mb).cb) (Chroma4 n)
+pub cb_nC-around : (shape : SliceShape) (ms : List Mb) (at : ℕ) (mb : Mb) (n : ℕ) → slice_get ms at ≡ Some mb → n < 4 → chroma_nC shape ms at 0 n ≡ nC (around_of shape ms at (field_at ms at)).cb (take n (counts_of mb).cb) (Chroma4 n)
 cb_nC-around shape ms at mb n is below = general shape ms at mb (chroma_count 0) (Chroma4 n) (take n (four (chroma_count 0 mb))) chroma_column chroma_row is (chroma_stands 0 mb n below)
 
-pub cr_nC-around : (shape : SliceShape) (ms : List Mb) (at : ℕ) (mb : Mb) (n : ℕ) → slice_get ms at ≡ Some mb → n < 4 → chroma_nC shape ms at 1 n ≡ nC (around_of shape ms at).cr (take n (counts_of mb).cr) (Chroma4 n)
+pub cr_nC-around : (shape : SliceShape) (ms : List Mb) (at : ℕ) (mb : Mb) (n : ℕ) → slice_get ms at ≡ Some mb → n < 4 → chroma_nC shape ms at 1 n ≡ nC (around_of shape ms at (field_at ms at)).cr (take n (counts_of mb).cr) (Chroma4 n)
 cr_nC-around shape ms at mb n is below = general shape ms at mb (chroma_count 1) (Chroma4 n) (take n (four (chroma_count 1 mb))) chroma_column chroma_row is (chroma_stands 1 mb n below)
 
 -- ---- outside MBAFF, from what the macroblocks to the left and above count
 
-same_four : (f g : ℕ → ℕ) → f 0 ≡ g 0 → f 1 ≡ g 1 → f 2 ≡ g 2 → f 3 ≡ g 3 → four f ≡ four g
+pub same_four : (f g : ℕ → ℕ) → f 0 ≡ g 0 → f 1 ≡ g 1 → f 2 ≡ g 2 → f 3 ≡ g 3 → four f ≡ four g
 same_four f g e0 e1 e2 e3 = rw (e0, e1, e2, e3) refl
 
 some_there : (ms : List Mb) (k : ℕ) → k < length ms → (m : Mb) × (slice_get ms k ≡ Some m)
@@ -296,13 +296,12 @@ rows_above shape ms at field place e y =
     ap (λ b. cond b (Some (spot place at (x_of place) (y_of place - 1))) (cond shape.mbaff (above_in_pairs shape ms at field place) (above_in_rows shape at place))) edge
     ∙ ap (λ b. cond b (above_in_pairs shape ms at field place) (above_in_rows shape at place)) e
 
-sides_from : (shape : SliceShape) (ms : List Mb) (at : ℕ) (count : Mb → ℕ → ℕ) (counts : Counts → List ℕ) (column row : ℕ → At) (last_column last_row : ℕ → ℕ)
+sides_from : (shape : SliceShape) (ms : List Mb) (at : ℕ) (field : Bool) (count : Mb → ℕ → ℕ) (counts : Counts → List ℕ) (column row : ℕ → At) (last_column last_row : ℕ → ℕ)
     → shape.mbaff ≡ false → 0 < shape.width → at ≤ length ms → AtSide count counts column last_block last_column → AtSide count counts row lowest_block last_row
     → ((i : ℕ) → i < 4 → x_of (column i) ≡ 0) → ((i : ℕ) → i < 4 → y_of (row i) ≡ 0)
-    → sides_in count shape ms at column row ≡ beside (counts_at ms (left_number shape.width shape.first at)) (counts_at ms (above_number shape.width at)) counts last_column last_row
+    → sides_in count shape ms at field column row ≡ beside (counts_at ms (left_number shape.width shape.first at)) (counts_at ms (above_number shape.width at)) counts last_column last_row
 unfolding last_block lowest_block
-sides_from shape ms at count counts column row last_column last_row frame wide inside left above x y =
-    let field : Bool = field_at ms at in
+sides_from shape ms at field count counts column row last_column last_row frame wide inside left above x y =
     let S : Option (List ℕ) → Option (List ℕ) → Sides = λ a b. record { left = a; above = b } in
     let l = side_from count counts column last_block last_column left ms (left_of shape ms at field) (λ place k. spot place k (size_of place - 1) (y_of place)) (left_number shape.width shape.first at)
     (λ place k. refl) (λ place k. refl) (λ i h. rows_left shape ms at field (column i) frame (x i h)) (rows_left shape ms at field Whole frame refl)
@@ -312,27 +311,27 @@ sides_from shape ms at count counts column row last_column last_row frame wide i
     (λ k is. omega (arith, inside, wide, above_number-before shape.width at k is)) in
     ap (λ o. S o (side (count_at count ms) (above_of shape ms at field) row)) l ∙ ap (λ o. S (option_map (λ (c : Counts). four (λ k. slice_index_or (counts c) (last_column k) 0)) (counts_at ms (left_number shape.width shape.first at))) o) a
 
-luma_edge : (i : ℕ) → i < 4 → (x_of (luma_column i) ≡ 0) × (y_of (luma_row i) ≡ 0)
+pub luma_edge : (i : ℕ) → i < 4 → (x_of (luma_column i) ≡ 0) × (y_of (luma_row i) ≡ 0)
 luma_edge zero h = (refl, refl)
 luma_edge (suc zero) h = (refl, refl)
 luma_edge (suc (suc zero)) h = (refl, refl)
 luma_edge (suc (suc (suc zero))) h = (refl, refl)
 luma_edge (suc (suc (suc (suc i)))) h = absurd (omega arith)
 
-chroma_edge : (i : ℕ) → i < 4 → (x_of (chroma_column i) ≡ 0) × (y_of (chroma_row i) ≡ 0)
+pub chroma_edge : (i : ℕ) → i < 4 → (x_of (chroma_column i) ≡ 0) × (y_of (chroma_row i) ≡ 0)
 chroma_edge zero h = (refl, refl)
 chroma_edge (suc zero) h = (refl, refl)
 chroma_edge (suc (suc zero)) h = (refl, refl)
 chroma_edge (suc (suc (suc zero))) h = (refl, refl)
 chroma_edge (suc (suc (suc (suc i)))) h = absurd (omega arith)
 
-same_around : (a a' b b' c c' : Sides) → a ≡ a' → b ≡ b' → c ≡ c' → ◌≡◌ {A = Around} (record { luma = a; cb = b; cr = c }) (record { luma = a'; cb = b'; cr = c' })
+pub same_around : (a a' b b' c c' : Sides) → a ≡ a' → b ≡ b' → c ≡ c' → ◌≡◌ {A = Around} (record { luma = a; cb = b; cr = c }) (record { luma = a'; cb = b'; cr = c' })
 same_around a a' b b' c c' e f g = cc
 
-pub around_is : (shape : SliceShape) (ms : List Mb) (at : ℕ) → shape.mbaff ≡ false → 0 < shape.width → at ≤ length ms
-    → around_of shape ms at ≡ around_from (counts_at ms (left_number shape.width shape.first at)) (counts_at ms (above_number shape.width at))
-around_is shape ms at frame wide inside =
-    let l = sides_from shape ms at luma_count (λ c. c.luma) luma_column luma_row _ _ frame wide inside luma_left luma_above (λ i h. (luma_edge i h).0) (λ i h. (luma_edge i h).1) in
-    let b = sides_from shape ms at (chroma_count 0) (λ c. c.cb) chroma_column chroma_row _ _ frame wide inside (chroma_left 0 (λ c. c.cb) (λ m. refl)) (chroma_above 0 (λ c. c.cb) (λ m. refl)) (λ i h. (chroma_edge i h).0) (λ i h. (chroma_edge i h).1) in
-    let r = sides_from shape ms at (chroma_count 1) (λ c. c.cr) chroma_column chroma_row _ _ frame wide inside (chroma_left 1 (λ c. c.cr) (λ m. refl)) (chroma_above 1 (λ c. c.cr) (λ m. refl)) (λ i h. (chroma_edge i h).0) (λ i h. (chroma_edge i h).1) in
+pub around_is : (shape : SliceShape) (ms : List Mb) (at : ℕ) (field : Bool) → shape.mbaff ≡ false → 0 < shape.width → at ≤ length ms
+    → around_of shape ms at field ≡ around_from (counts_at ms (left_number shape.width shape.first at)) (counts_at ms (above_number shape.width at))
+around_is shape ms at field frame wide inside =
+    let l = sides_from shape ms at field luma_count (λ c. c.luma) luma_column luma_row _ _ frame wide inside luma_left luma_above (λ i h. (luma_edge i h).0) (λ i h. (luma_edge i h).1) in
+    let b = sides_from shape ms at field (chroma_count 0) (λ c. c.cb) chroma_column chroma_row _ _ frame wide inside (chroma_left 0 (λ c. c.cb) (λ m. refl)) (chroma_above 0 (λ c. c.cb) (λ m. refl)) (λ i h. (chroma_edge i h).0) (λ i h. (chroma_edge i h).1) in
+    let r = sides_from shape ms at field (chroma_count 1) (λ c. c.cr) chroma_column chroma_row _ _ frame wide inside (chroma_left 1 (λ c. c.cr) (λ m. refl)) (chroma_above 1 (λ c. c.cr) (λ m. refl)) (λ i h. (chroma_edge i h).0) (λ i h. (chroma_edge i h).1) in
     same_around _ _ _ _ _ _ l b r

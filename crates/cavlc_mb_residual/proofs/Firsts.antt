@@ -1,5 +1,5 @@
 -- f of 0, 1, .. to n - 1, while n grows; and counts that are small.
-use Rattle.std.proofs.Common.{◌≡◌, ℕ, zero, suc, ◌+◌, ◌<◌, ◌≤◌, List, [], ◌∷◌, ◌++◌, length, get_or, refl, ap, sym, ◌∙◌, arith, add-one, length-append, inl, inr, slice_set}
+use Rattle.std.proofs.Common.{◌≡◌, ℕ, zero, suc, ◌+◌, ◌<◌, ◌≤◌, List, [], ◌∷◌, ◌++◌, length, take, get_or, refl, ap, sym, ◌∙◌, arith, add-one, length-append, inl, inr, slice_set}
 use Rattle.std.specs.Prelude.{replicate}
 use Rattle.std.proofs.lemmas.Bool.{cases_lt}
 use Rattle.std.proofs.lemmas.List.{get_or_append_left, get_or_push}
@@ -54,6 +54,12 @@ length-sixteen f = refl
 
 pub get_or-sixteen : {A : Type 0} (f : ℕ → A) (i : ℕ) (d : A) → i < 16 → get_or (sixteen f) i d ≡ f i
 get_or-sixteen f i d h = ap (λ xs. get_or xs i d) (sym (firsts-16 f 16 refl)) ∙ get_or-firsts f 16 i d h
+
+pub take-all : {A : Type 0} (n : ℕ) (xs : List A) → length xs ≡ n → take n xs ≡ xs
+take-all zero [] e = refl
+take-all zero (x ∷ xs) e = absurd (omega (arith, e))
+take-all (suc n) [] e = absurd (omega (arith, e))
+take-all (suc n) (x ∷ xs) e = ap (λ ys. x ∷ ys) (take-all n xs (omega (arith, e)))
 
 -- ---- counts
 

@@ -5,6 +5,7 @@ pub mod Unsent
 pub mod Chain
 pub mod ResidualChain
 pub mod CountLaws
+pub mod AroundLaws
 pub mod BeyondLaws
 pub mod Searching
 pub mod ResidualUnique

@@ -27,6 +27,9 @@ zero_at (x ∷ xs) e k = by (is_nonzero x) refl (λ h j. zero_at xs h j) k
 parts : (n : ℕ) (xs : List ℤ) → total_coeff xs ≡ total_coeff (take n xs) + total_coeff (drop n xs)
 parts n xs = ap total_coeff (sym (take-append-drop n xs)) ∙ (ap length (filter-append is_nonzero (take n xs) (drop n xs)) ∙ length-append (filter is_nonzero (take n xs)) (filter is_nonzero (drop n xs)))
 
+pub front_none : (n : ℕ) (xs : List ℤ) → total_coeff xs ≡ 0 → total_coeff (take n xs) ≡ 0
+front_none n xs e = omega (arith, e, parts n xs)
+
 block_none : (xs : List ℤ) (k : ℕ) → total_coeff xs ≡ 0 → total_coeff (block_of xs k) ≡ 0
 block_none xs k e = omega (arith, e, parts (16 * k) xs, parts 16 (drop (16 * k) xs))
 

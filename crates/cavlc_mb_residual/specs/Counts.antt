@@ -1,5 +1,5 @@
 -- nC, the number of levels other than 0 that is expected of a block (ITU-T H.264, 9.2.1).
-use Rattle.std.specs.Prelude.{ℕ, ◌+◌, ◌-◌, ◌*◌, ◌/◌, ◌%◌, ◌≤◌, nat_lt, if◌then◌else◌, Option, Some, None, List, [], ℤ, slice_get, slice_index_or}
+use Rattle.std.specs.Prelude.{Bool, ℕ, ◌+◌, ◌-◌, ◌*◌, ◌/◌, ◌%◌, ◌≤◌, nat_lt, if◌then◌else◌, Option, Some, None, List, [], ℤ, slice_get, slice_index_or, take}
 use Rattle.std.specs.Option.{option_map, option_map_or}
 use Rattle.h264_types.specs.Kind.{is_i_pcm}
 use Rattle.h264_types.specs.LastRows.{kept_at}
@@ -16,6 +16,8 @@ use Rattle.cavlc_mb_residual.specs.LumaBlocks.{four, sixteen, sent_block}
 use Rattle.cavlc_mb_residual.specs.declared.counts.Counts.{Counts}
 use Rattle.cavlc_mb_residual.specs.declared.counts.Sides.{Sides}
 use Rattle.cavlc_mb_residual.specs.declared.counts.Around.{Around}
+use Rattle.cavlc_mb_residual.specs.declared.pairs.Component.{Component}
+use Rattle.cavlc_mb_residual.specs.declared.pairs.Component.TheVariants.{Luma, Cb, Cr}
 
 -- ---- what the blocks of a macroblock count
 
@@ -24,18 +26,20 @@ abbrev pub chroma_block : Mb → ℕ → ℕ → List ℤ
 chroma_block mb comp n = slice_index_or (slice_index_or mb.chroma_ac comp []) n []
 
 -- The levels other than 0 of the list that is sent of a block: in I_16x16 those of its AC block alone, and 16 in I_PCM. In a
--- macroblock of a slice the levels of a block that isn't sent are 0, by its pattern or since it is skipped: it counts 0.
+-- macroblock of a slice the levels of a block that isn't sent are 0, by its pattern or since it is skipped: it counts 0. An AC
+-- block of chroma has 15 levels in each such macroblock; `take` says so of any list, so that no block counts more than 16.
 abbrev pub luma_count : Mb → ℕ → ℕ
 luma_count mb n = if is_i_pcm mb.kind then 16 else total_coeff (sent_block mb n)
 
 abbrev pub chroma_count : ℕ → Mb → ℕ → ℕ
-chroma_count comp mb n = if is_i_pcm mb.kind then 16 else total_coeff (chroma_block mb comp n)
+chroma_count comp mb n = if is_i_pcm mb.kind then 16 else total_coeff (take 15 (chroma_block mb comp n))
 
 abbrev pub counts_of : Mb → Counts
 counts_of mb = record {
   luma = sixteen (luma_count mb);
   cb = four (chroma_count 0 mb);
   cr = four (chroma_count 1 mb);
+  field = mb.field;
 }
 
 -- ---- nC in a list of macroblocks
@@ -110,10 +114,10 @@ pub record IsAround (around : Around) : Type 0 where
 abbrev pub side : (Spot → ℕ) → (At → Option Spot) → (ℕ → At) → Option (List ℕ)
 side count find place = option_map (λ (_ : Spot). four (λ k. option_map_or count (find (place k)) 0)) (find Whole)
 
-abbrev pub sides_in : (Mb → ℕ → ℕ) → SliceShape → List Mb → ℕ → (ℕ → At) → (ℕ → At) → Sides
-sides_in count shape ms at first_column first_row = record {
-  left = side (count_at count ms) (left_of shape ms at (field_at ms at)) first_column;
-  above = side (count_at count ms) (above_of shape ms at (field_at ms at)) first_row;
+abbrev pub sides_in : (Mb → ℕ → ℕ) → SliceShape → List Mb → ℕ → Bool → (ℕ → At) → (ℕ → At) → Sides
+sides_in count shape ms at field first_column first_row = record {
+  left = side (count_at count ms) (left_of shape ms at field) first_column;
+  above = side (count_at count ms) (above_of shape ms at field) first_row;
 }
 
 -- the luma blocks of the first column and of the first row; in chroma there are two, which are named twice
@@ -129,12 +133,41 @@ chroma_column k = Chroma4 (2 * (k % 2))
 abbrev pub chroma_row : ℕ → At
 chroma_row k = Chroma4 (k % 2)
 
-abbrev pub around_of : SliceShape → List Mb → ℕ → Around
-around_of shape ms at = record {
-  luma = sides_in luma_count shape ms at luma_column luma_row;
-  cb = sides_in (chroma_count 0) shape ms at chroma_column chroma_row;
-  cr = sides_in (chroma_count 1) shape ms at chroma_column chroma_row;
+abbrev pub around_of : SliceShape → List Mb → ℕ → Bool → Around
+around_of shape ms at field = record {
+  luma = sides_in luma_count shape ms at field luma_column luma_row;
+  cb = sides_in (chroma_count 0) shape ms at field chroma_column chroma_row;
+  cr = sides_in (chroma_count 1) shape ms at field chroma_column chroma_row;
 }
+
+-- ---- by component
+
+abbrev pub count_of : Component → Mb → ℕ → ℕ
+count_of Luma = luma_count
+count_of Cb = chroma_count 0
+count_of Cr = chroma_count 1
+
+abbrev pub column_of : Component → ℕ → At
+column_of Luma = luma_column
+column_of Cb = chroma_column
+column_of Cr = chroma_column
+
+abbrev pub row_of : Component → ℕ → At
+row_of Luma = luma_row
+row_of Cb = chroma_row
+row_of Cr = chroma_row
+
+-- how many blocks a macroblock has of it
+abbrev pub blocks_of : Component → ℕ
+blocks_of Luma = 16
+blocks_of Cb = 4
+blocks_of Cr = 4
+
+-- what they count
+abbrev pub counts_in : Component → Counts → List ℕ
+counts_in Luma counts = counts.luma
+counts_in Cb counts = counts.cb
+counts_in Cr counts = counts.cr
 
 -- ---- outside MBAFF, from what the macroblocks to the left and above count
 

@@ -1,14 +1,19 @@
-ghost use Rattle.std.specs.Prelude.{◌≡◌, ◌+◌, ◌*◌, ◌==◌, ◌<◌, ◌≤◌, ℕ, true, false, [], length, slice_index_or, IfSome};
+ghost use Rattle.std.specs.Prelude.{◌≡◌, ◌+◌, ◌*◌, ◌==◌, ◌<◌, ◌≤◌, ℕ, true, false, List, [], length, slice_index_or, take, IfSome};
 ghost use Rattle.std.specs.Int.{bit_at};
 ghost use Rattle.h264_types.specs.Macroblock.{quarter_of};
 ghost use Rattle.h264_types.specs.Valid.{IsCoded};
+ghost use Rattle.h264_types.specs.LastRows.{AreRows};
+ghost use Rattle.h264_types.specs.SliceShape.{IsSliceShape};
+ghost use Rattle.h264_types.specs.declared.macroblock.Mb.{Mb};
 ghost use Rattle.cavlc_residual.specs.Block.{total_coeff};
 ghost use Rattle.cavlc_mb_residual.specs.LumaBlocks as lists;
 ghost use Rattle.cavlc_mb_residual.specs.Counts as count;
 
+use crate::pairs::around_in_pairs;
 use crate::transform_8x8::every_fourth;
 use circular_buffer::HeapCircularBuffer;
-use h264_types::{Mb, OfMb};
+use h264_types::{Mb, OfMb, Rows, SliceShape};
+use mb_neighbours::OfPair;
 
 /// How many levels other than 0 the lists of a macroblock have that are sent of its blocks, as the macroblocks to its
 /// right and below it count them (9.2.1).
@@ -20,6 +25,8 @@ pub struct Counts {
     pub cb: [u8; 4],
     /// Of those of Cr.
     pub cr: [u8; 4],
+    /// The macroblock's mb_field_decoding_flag, which tells its place beside those around it in MBAFF.
+    pub field: bool,
 }
 
 /// What the blocks to the left of a macroblock's first column count, and those above its first row, of one component.
@@ -75,6 +82,12 @@ impl OfMb for Counts {
     }
 }
 
+impl OfPair for Counts {
+    fn is_field(&self) -> bool {
+        self.field
+    }
+}
+
 /// What the blocks of a macroblock count whose levels stand where its pattern sends them.
 fn coded_counts(mb: &Mb) -> Counts
     requires { IsCoded mb.now }
@@ -120,12 +133,14 @@ fn counts_where(mb: &Mb, quarters: [bool; 4], cb: bool, cr: bool) -> Counts
             luma: [16; 16],
             cb: [16; 4],
             cr: [16; 4],
+            field: mb.field,
         };
     }
     Counts {
         luma: luma_counts(mb, quarters),
         cb: chroma_counts(&mb.chroma_ac[0], cb),
         cr: chroma_counts(&mb.chroma_ac[1], cr),
+        field: mb.field,
     }
 }
 
@@ -191,20 +206,28 @@ fn have_levels(blocks: &[[i32; 15]; 4]) -> bool
     has_levels(a) | has_levels(b) | has_levels(c) | has_levels(d)
 }
 
+/// TotalCoeff of an AC block.
+fn ac_count(block: &[i32; 15]) -> u8
+    ensures value { result ≡ total_coeff (take 15 block.now) }
+    ensures most { result ≤ 16 }
+{
+    count_levels(block)
+}
+
 /// TotalCoeff of each AC block of a chroma component, where `some` is false only if they have no levels.
 fn chroma_counts(blocks: &[[i32; 15]; 4], some: bool) -> [u8; 4]
     requires none { some ≡ false → (n : ℕ) → total_coeff (slice_index_or blocks.now n []) ≡ 0 }
-    ensures value { result ≡ lists.four (λ n. total_coeff (slice_index_or blocks.now n [])) }
+    ensures value { result ≡ lists.four (λ n. total_coeff (take 15 (slice_index_or blocks.now n []))) }
     ensures small { count.AreSmall result }
 {
     if !some {
         return [0; 4];
     }
     [
-        count_levels(&blocks[0]),
-        count_levels(&blocks[1]),
-        count_levels(&blocks[2]),
-        count_levels(&blocks[3]),
+        ac_count(&blocks[0]),
+        ac_count(&blocks[1]),
+        ac_count(&blocks[2]),
+        ac_count(&blocks[3]),
     ]
 }
 
@@ -220,6 +243,21 @@ impl Around {
             luma: luma_sides(left, above),
             cb: cb_sides(left, above),
             cr: cr_sides(left, above),
+        }
+    }
+
+    /// What stands around the next macroblock of a slice, where `field` is the flag of its pair, which counts in MBAFF alone.
+    pub fn of_next(shape: &SliceShape, rows: &Rows<Counts>, field: bool) -> Around
+        requires shape { IsSliceShape shape.now }
+        requires mbaff { rows.now.mbaff ≡ shape.now.mbaff }
+        requires room { shape.now.first + rows.now.count < shape.now.width * shape.now.height }
+        ensures value { (done : List Mb) → AreRows count.counts_of shape.now rows.now done → result ≡ count.around_of shape.now done (length done) field }
+        ensures small { count.IsAround result }
+    {
+        if shape.mbaff {
+            around_in_pairs(shape, rows, field)
+        } else {
+            Around::beside(rows.left(), rows.above())
         }
     }
 }

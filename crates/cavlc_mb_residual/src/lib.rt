@@ -9,6 +9,7 @@ pub mod laws;
 mod lists;
 mod luma;
 mod nc;
+mod pairs;
 mod residual;
 mod transform_8x8;
 

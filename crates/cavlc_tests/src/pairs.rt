@@ -1,9 +1,13 @@
-//! The neighbours in MBAFF by Table 6-4, and the pair flags that are inferred (7.4.4).
-ghost use Rattle.std.specs.Prelude.{◌<◌};
+//! The neighbours in MBAFF by Table 6-4, what they count (9.2.1), and the pair flags that are inferred (7.4.4).
+ghost use Rattle.std.specs.Prelude.{◌≡◌, ◌+◌, ◌*◌, ◌<◌, length};
+ghost use Rattle.h264_types.specs.SliceShape.{IsSliceShape};
 
 use crate::spots::{is_place, is_spot, rows_of, shape, skipped};
-use h264_types::{Mb, MbKind, valid};
+use cavlc_mb_residual::{Around, Counts, Sides};
+use h264_types::{Mb, MbKind, Rows, SliceShape, valid};
 use mb_neighbours::{At, above, left};
+use mbaff_infer::inferred_flag;
+use std::alloc::{AllocError as Memory, Global};
 use std::test::Fail;
 
 /// The second and the third pair of a row, after frame or field pairs: the flag of the current pair, those of the first and of
@@ -111,12 +115,75 @@ fn with_skipped(flags: &[bool; 4], pair: usize, flag: bool) -> [Mb; 8]
 }
 
 #[test]
-fn flags_of_skipped_pairs(rt: HostRuntime) {
+fn flags_of_skipped_pairs(rt: HostRuntime) -> Result<(), Fail> {
     let shape = shape(2, 0, true);
+    assert!(rt; shape.is_shape());
     for (flags, pair) in &INFERRED {
         assert!(rt; *pair < 4);
         let flag = flags[*pair];
-        assert!(rt; valid(&shape, &with_skipped(flags, *pair, flag)));
+        let mbs = with_skipped(flags, *pair, flag);
+        assert!(rt; valid(&shape, &mbs));
         assert!(rt; !valid(&shape, &with_skipped(flags, *pair, !flag)));
+        let done = rows_of(rt.alloc(), &shape, &mbs[..2 * *pair])?;
+        let pairs = done.count() / 2;
+        assert!(rt; pairs < 8);
+        assert!(rt; inferred_flag(&shape, &done, pairs) == flag);
     }
+    Ok(())
+}
+
+/// Blocks of the last column and of the lowest row, and how many levels each has in a top macroblock.
+static LEVELS: [(u8, u8); 7] = [(5, 1), (7, 2), (13, 3), (15, 4), (10, 5), (11, 6), (14, 7)];
+
+/// A macroblock whose blocks count so many more than those of a top one.
+fn counting(more: u8, field: bool) -> Mb {
+    let mut mb = coded(field);
+    for (block, count) in &LEVELS {
+        for place in 0..16u8 {
+            if place < count.saturating_add(more) {
+                mb.luma[usize::from(*block / 4 % 4)][usize::from(16 * (*block % 4) + place)] = 1;
+            }
+        }
+    }
+    mb
+}
+
+/// What stands around the macroblock behind these.
+fn around_next(alloc: Global, shape: &SliceShape, mbs: &[Mb], field: bool) -> Result<Around, Memory>
+    requires shape { IsSliceShape shape.now }
+    requires picture { shape.now.first + length mbs.now < shape.now.width * shape.now.height }
+{
+    let mut rows = Rows::<Counts>::start(alloc, shape)?;
+    for mb in mbs {
+        rows.push(mb);
+    }
+    Ok(Around::of_next(shape, &rows, field))
+}
+
+/// The second pair of a row, to the right of a frame or field pair and below another of that kind: the flag of those two, its
+/// own, whether its bottom macroblock is looked at, and what the blocks count to the left and above.
+static AROUND: [(bool, bool, bool, [u8; 4], [u8; 4]); 8] = [
+    (false, false, false, [1, 2, 3, 4], [13, 14, 15, 12]),
+    (false, false, true, [9, 10, 11, 12], [5, 6, 7, 4]),
+    (true, false, false, [1, 1, 2, 2], [13, 14, 15, 12]),
+    (true, false, true, [3, 3, 4, 4], [5, 6, 7, 4]),
+    (false, true, false, [1, 3, 9, 11], [13, 14, 15, 12]),
+    (false, true, true, [1, 3, 9, 11], [13, 14, 15, 12]),
+    (true, true, false, [1, 2, 3, 4], [5, 6, 7, 4]),
+    (true, true, true, [9, 10, 11, 12], [13, 14, 15, 12]),
+];
+
+#[test]
+fn counts_beside_pairs(rt: HostRuntime) -> Result<(), Fail> {
+    let shape = shape(2, 0, true);
+    assert!(rt; shape.is_shape());
+    for (beside, field, bottom, left, above) in &AROUND {
+        let (top, low) = (counting(0, *beside), counting(8, *beside));
+        let mbs = [top, low, top, low, top, low, counting(0, *field)];
+        let before = if *bottom { 7 } else { 6 };
+        let around = around_next(rt.alloc(), &shape, &mbs[..before], *field)?;
+        let (left, above) = (Some(*left), Some(*above));
+        assert!(rt; around.luma == Sides { left, above });
+    }
+    Ok(())
 }

@@ -5,9 +5,11 @@
 
 pub mod laws;
 mod near;
+mod of_pair;
 mod pairs;
 mod place;
 mod rows;
 
 pub use near::{above, left};
+pub use of_pair::{OfPair, is_field_at};
 pub use place::{At, Spot};

@@ -1,30 +1,26 @@
 // Neighbours between the pairs of a macroblock-adaptive frame (6.4.10, 6.4.12.2).
 ghost use Rattle.std.specs.Prelude.{◌≡◌, ◌+◌, ◌*◌, ◌%◌, ◌^◌, ◌<◌, ◌≤◌, true, List, IfSome};
 ghost use Rattle.h264_types.specs.LastRows.{AreRows, IsRecent, StandsAt};
-ghost use Rattle.h264_types.specs.Slice.{IsInPicture, field_at};
+ghost use Rattle.h264_types.specs.Slice.{IsInPicture};
 ghost use Rattle.h264_types.specs.declared.macroblock.Mb.{Mb};
 ghost use Rattle.h264_types.specs.declared.slice_shape.SliceShape.{SliceShape};
 ghost use Rattle.mb_neighbours.specs.Place.{IsPlace, count_of};
 ghost use Rattle.mb_neighbours.specs.Pair.{left_half, left_row, above_half};
 ghost use Rattle.mb_neighbours.specs.Near.{left_in_pair, left_in_pairs, above_in_pairs};
 
+use crate::of_pair::{OfPair, is_field_at};
 use crate::place::{At, Spot};
 use h264_types::slice_order::above_number;
-use h264_types::{Mb, Rows, SliceShape};
+use h264_types::{Rows, SliceShape};
 
-/// mb_field_decoding_flag of a macroblock of the last two rows.
-fn is_field_at(done: &Rows<Mb>, number: u32) -> bool
-    ensures { (shape : SliceShape) (mbs : List Mb) → AreRows (λ mb. mb) shape done.now mbs → IsRecent done.now number → result ≡ field_at mbs number }
-{
-    match done.get(number) {
-        Some(mb) => mb.field,
-        None => false,
-    }
-}
-
-pub(crate) fn in_left_pair(done: &Rows<Mb>, at: u32, field: bool, place: At) -> Option<Spot>
+pub(crate) fn in_left_pair<K: OfPair>(
+    done: &Rows<K>,
+    at: u32,
+    field: bool,
+    place: At,
+) -> Option<Spot>
     requires place { IsPlace place }
-    ensures value { (shape : SliceShape) (mbs : List Mb) → shape.mbaff ≡ true → StandsAt (λ mb. mb) shape done.now mbs at → result ≡ left_in_pairs shape mbs at field place }
+    ensures value { (shape : SliceShape) (mbs : List Mb) → shape.mbaff ≡ true → StandsAt K.of shape done.now mbs at → result ≡ left_in_pairs shape mbs at field place }
     ensures before { IfSome result (λ found. found.mb < at) }
     ensures block { IfSome result (λ found. found.block < count_of place) }
 {
@@ -32,11 +28,17 @@ pub(crate) fn in_left_pair(done: &Rows<Mb>, at: u32, field: bool, place: At) -> 
     Some(spot_in_left_pair(done, pair, at % 2, field, place))
 }
 
-fn spot_in_left_pair(done: &Rows<Mb>, pair: u32, bottom: u32, field: bool, place: At) -> Spot
+fn spot_in_left_pair<K: OfPair>(
+    done: &Rows<K>,
+    pair: u32,
+    bottom: u32,
+    field: bool,
+    place: At,
+) -> Spot
     requires fits { 2 * pair + 1 < 2 ^ 32 }
     requires bottom { bottom < 2 }
     requires place { IsPlace place }
-    ensures value { (shape : SliceShape) (mbs : List Mb) → AreRows (λ mb. mb) shape done.now mbs → IsRecent done.now (2 * pair) → result ≡ left_in_pair mbs pair bottom field place }
+    ensures value { (shape : SliceShape) (mbs : List Mb) → AreRows K.of shape done.now mbs → IsRecent done.now (2 * pair) → result ≡ left_in_pair mbs pair bottom field place }
     ensures pair { result.mb ≤ 2 * pair + 1 }
     ensures block { result.block < count_of place }
 {
@@ -93,16 +95,16 @@ pub(crate) fn row_of_left_pair(
     }
 }
 
-pub(crate) fn in_pair_above(
+pub(crate) fn in_pair_above<K: OfPair>(
     shape: &SliceShape,
-    done: &Rows<Mb>,
+    done: &Rows<K>,
     at: u32,
     field: bool,
     place: At,
 ) -> Option<Spot>
     requires picture { IsInPicture shape.now at }
     requires place { IsPlace place }
-    ensures value { (mbs : List Mb) → shape.now.mbaff ≡ true → StandsAt (λ mb. mb) shape.now done.now mbs at → result ≡ above_in_pairs shape.now mbs at field place }
+    ensures value { (mbs : List Mb) → shape.now.mbaff ≡ true → StandsAt K.of shape.now done.now mbs at → result ≡ above_in_pairs shape.now mbs at field place }
     ensures before { IfSome result (λ found. found.mb < at) }
     ensures block { IfSome result (λ found. found.block < count_of place) }
 {

@@ -9,11 +9,11 @@ ghost use Rattle.mb_neighbours.specs.Near.{left_in_rows, above_in_rows};
 
 use crate::place::{At, Spot};
 use h264_types::slice_order::above_number;
-use h264_types::{Mb, Rows, SliceShape};
+use h264_types::{OfMb, Rows, SliceShape};
 
-pub(crate) fn left_in_row(done: &Rows<Mb>, at: u32, place: At) -> Option<Spot>
+pub(crate) fn left_in_row<K: OfMb>(done: &Rows<K>, at: u32, place: At) -> Option<Spot>
     requires place { IsPlace place }
-    ensures value { (shape : SliceShape) (mbs : List Mb) → shape.mbaff ≡ false → StandsAt (λ mb. mb) shape done.now mbs at → result ≡ left_in_rows shape at place }
+    ensures value { (shape : SliceShape) (mbs : List Mb) → shape.mbaff ≡ false → StandsAt K.of shape done.now mbs at → result ≡ left_in_rows shape at place }
     ensures before { IfSome result (λ found. found.mb < at) }
     ensures block { IfSome result (λ found. found.block < count_of place) }
 {
