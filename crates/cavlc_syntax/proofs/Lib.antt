@@ -1,4 +1,8 @@
+mod Pairs
+pub mod Kept
 pub mod Rows
+pub mod Flags
+mod Same
 mod Ends
 pub mod Members
 mod TextParts

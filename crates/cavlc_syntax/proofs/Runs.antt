@@ -6,7 +6,6 @@ use Rattle.std.proofs.lemmas.List.Elements.{All-head, All-tail}
 use Rattle.bit_texts.specs.Bits.{more_data}
 use Rattle.bit_texts.specs.Cursor.{Cursor, cursor, Takes}
 use Rattle.bit_texts.proofs.Inverting.{some_is}
-use Rattle.bit_texts.proofs.Reading.{same_rest}
 use Rattle.exp_golomb.specs.Code.{Ue, ue}
 use Rattle.exp_golomb.specs.Element.{element_at}
 use Rattle.exp_golomb.proofs.Fronts.{element-inverts, in_ue}
@@ -17,18 +16,12 @@ use Rattle.h264_types.specs.declared.macroblock.MbKind.TheVariants.{Skip}
 use Rattle.h264_types.specs.declared.slice_shape.SliceKind.{SliceKind}
 use Rattle.h264_types.specs.declared.slice_shape.SliceKind.TheVariants as slices
 use Rattle.h264_types.specs.declared.slice_shape.SliceShape.{SliceShape}
-use Rattle.h264_types.specs.SliceShape.{IsSliceShape}
-use Rattle.h264_types.proofs.ShapeLaws.{few_refs}
-use Rattle.cavlc_mb_residual.specs.declared.counts.Around.{Around}
-use Rattle.bit_texts.specs.Texts.{IsPrefixFree}
-use Rattle.cavlc_macroblock.specs.Macroblock.{macroblock_text}
-use Rattle.cavlc_macroblock.specs.Reading.{IsSent}
 use Rattle.cavlc_syntax.specs.Reading.{run_at, IsSkipped, IsRead}
-use Rattle.cavlc_syntax.specs.SliceText.{prefix_bound, stop_text, run_text, last_run_text, coded_text, text_after}
+use Rattle.cavlc_syntax.specs.SliceText.{stop_text, run_text, last_run_text, coded_text, text_after}
 use Rattle.cavlc_syntax.specs.Standing.{IsCodedNext, IsBehindRun}
-use Rattle.cavlc_macroblock.proofs.Layers.{ue_some, text_some, IsPrefixFree-macroblock}
-use Rattle.cavlc_syntax.proofs.Members.{is_skipped, sent_of, bound_most}
-use Rattle.cavlc_syntax.proofs.TextParts.{HasOne, one_behind, more_behind, stop_no_more, around_next, coded_after, run_after, end_text, text_end, text_no_run, text_skip, text_coded, text_has_one}
+use Rattle.cavlc_macroblock.proofs.Layers.{ue_some}
+use Rattle.cavlc_syntax.proofs.Members.{is_skipped}
+use Rattle.cavlc_syntax.proofs.TextParts.{HasOne, one_behind, more_behind, stop_no_more, coded_some, coded_after, run_after, end_text, text_end, text_skip, text_coded, text_has_one}
 
 -- ---- mb_skip_run
 
@@ -56,7 +49,7 @@ run_reads slices.P room run c rest few most may e = ap (λ (l : List Bool). elem
 run_reads slices.B room run c rest few most may e = ap (λ (l : List Bool). element_at (Ue room) (cursor c.taken l)) e ∙ (element-inverts (Ue room)).again c.taken run rest (in_ue room run few most)
 
 -- no mb_skip_run begins another one
-run_same : (kind : SliceKind) (run other : ℕ) (x y : List Bool) → run ≤ 4294967294 → other ≤ 4294967294 → MaySkip kind run → MaySkip kind other → run_text kind run ++ x ≡ run_text kind other ++ y → (run ≡ other) × (x ≡ y)
+pub run_same : (kind : SliceKind) (run other : ℕ) (x y : List Bool) → run ≤ 4294967294 → other ≤ 4294967294 → MaySkip kind run → MaySkip kind other → run_text kind run ++ x ≡ run_text kind other ++ y → (run ≡ other) × (x ≡ y)
 run_same kind run other x y few few' may may' e =
     let c : Cursor = cursor 0 (run_text kind run ++ x) in
     let one = run_reads kind 4294967294 run c x few (omega arith) may refl in
@@ -111,7 +104,7 @@ text_front shape n known run (mb ∷ tail) are some =
           count = suc f.count;
           rest = f.rest;
           parts = text_skip shape n known run mb tail (is_skipped shape mb is) ∙ f.parts ∙ ap (λ r. run_text shape.kind r ++ f.rest) more;
-          behind = (is.elements, subst (λ r. IsBehindRun shape (known ++ mb ∷ []) f.count (cursor (n + length (run_text shape.kind r)) f.rest) tail) more f.behind);
+          behind = (is_skipped shape mb is, subst (λ r. IsBehindRun shape (known ++ mb ∷ []) f.count (cursor (n + length (run_text shape.kind r)) f.rest) tail) more f.behind);
           few = omega (arith, f.few);
           may = λ h. is.kind;
         }
@@ -134,10 +127,9 @@ text_back shape n known run (mb ∷ tail) zero d far some left =
     ap (λ l. run_text shape.kind (run + 0) ++ l) (left.1 ∙ ap (coded_after shape known mb tail) far) ∙ ap (run_after shape known mb tail n) same ∙ sym (text_coded shape n known run mb tail left.0)
 text_back shape n known run (mb ∷ tail) (suc count) d far some left =
     let more : run + suc count ≡ run + 1 + count = omega arith in
-    let skips : is_skip mb.kind ≡ true = ap (λ (m : Mb). is_skip m.kind) left.0 in
     ap (λ r. run_text shape.kind r ++ d.left) more
     ∙ text_back shape n (known ++ mb ∷ []) (run + 1) tail count d (far ∙ ap (λ r. n + length (run_text shape.kind r)) more) (omega arith) left.1
-    ∙ sym (text_skip shape n known run mb tail skips)
+    ∙ sym (text_skip shape n known run mb tail left.0)
 
 -- ---- the front of a text behind a macroblock that isn't skipped
 
@@ -182,7 +174,7 @@ behind_has_one shape known (suc count) d (mb ∷ tail) left = behind_has_one sha
 pub coded_more : (shape : SliceShape) (known : List Mb) (d : Cursor) (mb : Mb) (tail : List Mb) → IsCodedNext shape known d (mb ∷ tail) → more_data d.left ≡ true
 coded_more shape known d mb tail left =
     let text = coded_text shape d.taken known mb in
-    ap more_data left.1 ∙ more_behind text _ (text_some shape (around_next shape known) d.taken mb) (text_has_one shape (d.taken + length text) (known ++ mb ∷ []) 0 tail)
+    ap more_data left.1 ∙ more_behind text _ (coded_some shape d.taken known mb) (text_has_one shape (d.taken + length text) (known ++ mb ∷ []) 0 tail)
 
 run_more : (kind : SliceKind) (run : ℕ) (rest : List Bool) → HasOne rest → (kind ≡ slices.I → more_data rest ≡ true) → more_data (run_text kind run ++ rest) ≡ true
 run_more slices.I run rest one more = more refl
@@ -200,68 +192,9 @@ text_more shape n known mb tail are =
     in_i zero may e d left = coded_more shape known d mb tail left
     in_i (suc count) may e d left = let bad : false ≡ true = ap (λ (kind : SliceKind). is_kind_in kind Skip) (sym e) ∙ may (omega arith) in absurd cc
 
-no_stop : (shape : SliceShape) (n : ℕ) (known : List Mb) (mb : Mb) (tail : List Mb) → All (IsRead shape) (mb ∷ tail) → stop_text n ≡ text_after shape n known 0 (mb ∷ tail) → ⊥
+pub no_stop : (shape : SliceShape) (n : ℕ) (known : List Mb) (mb : Mb) (tail : List Mb) → All (IsRead shape) (mb ∷ tail) → stop_text n ≡ text_after shape n known 0 (mb ∷ tail) → ⊥
 no_stop shape n known mb tail are e =
     let some : more_data (text_after shape n known 0 (mb ∷ tail)) ≡ true = text_more shape n known mb tail are in
     let none : more_data (stop_text n) ≡ false = stop_no_more n in
     let same : more_data (stop_text n) ≡ more_data (text_after shape n known 0 (mb ∷ tail)) = ap more_data e in
     absurd cc
-
--- ---- the same bits
-
--- lists with the same text, where those are the same that go on behind the same mb_skip_run
-pub same_after : (shape : SliceShape) (n : ℕ) (known xs ys : List Mb) → length xs ≤ 4294967294 → length ys ≤ 4294967294 → All (IsRead shape) xs → All (IsRead shape) ys
-    → ((count : ℕ) (d : Cursor) → IsBehindRun shape known count d xs → IsBehindRun shape known count d ys → xs ≡ ys)
-    → text_after shape n known 0 xs ≡ text_after shape n known 0 ys → xs ≡ ys
-same_after shape n known [] [] few few' p q behind e = refl
-same_after shape n known [] (y ∷ ys) few few' p q behind e = absurd (no_stop shape n known y ys q (sym (text_no_run shape n known) ∙ e))
-same_after shape n known (x ∷ xs) [] few few' p q behind e = absurd (no_stop shape n known x xs p (sym (text_no_run shape n known) ∙ sym e))
-same_after shape n known (x ∷ xs) (y ∷ ys) few few' p q behind e =
-    let f = text_first shape n known x xs p in
-    let g = text_first shape n known y ys q in
-    let same = run_same shape.kind f.count g.count f.rest g.rest (omega (arith, f.few, few)) (omega (arith, g.few, few')) f.may g.may (sym f.parts ∙ e ∙ g.parts) in
-    let other : IsBehindRun shape known f.count (cursor (n + length (run_text shape.kind f.count)) f.rest) (y ∷ ys) =
-    subst (λ (l : List Bool). IsBehindRun shape known f.count (cursor (n + length (run_text shape.kind f.count)) l) (y ∷ ys)) (sym same.1)
-    (subst (λ (k : ℕ). IsBehindRun shape known k (cursor (n + length (run_text shape.kind k)) g.rest) (y ∷ ys)) (sym same.0) g.behind) in
-    behind f.count (cursor (n + length (run_text shape.kind f.count)) f.rest) f.behind other
-
--- no text of a macroblock begins another one
-pub no_other : (shape : SliceShape) (around : Around) (pos : ℕ) → IsSliceShape shape → IsPrefixFree (IsSent shape (prefix_bound shape)) (macroblock_text shape around pos)
-no_other shape around pos is = IsPrefixFree-macroblock shape around (prefix_bound shape) pos (omega (arith, few_refs shape 0 is.l0)) (omega (arith, few_refs shape 1 is.l1)) (bound_most shape)
-
-pub same_behind : (shape : SliceShape) (known : List Mb) (count : ℕ) (d : Cursor) (xs ys : List Mb) → IsSliceShape shape → length xs ≤ 4294967294 → length ys ≤ 4294967294 → All (IsRead shape) xs → All (IsRead shape) ys
-    → IsBehindRun shape known count d xs → IsBehindRun shape known count d ys → xs ≡ ys
-unfolding IsBehindRun
-same_behind shape known zero d [] [] is_shape few few' p q left right = refl
-same_behind shape known zero d [] (y ∷ ys) is_shape few few' p q left right =
-    let some : more_data d.left ≡ true = coded_more shape known d y ys right in
-    let none : more_data d.left ≡ false = ap more_data left ∙ stop_no_more d.taken in
-    absurd cc
-same_behind shape known zero d (x ∷ xs) [] is_shape few few' p q left right =
-    let some : more_data d.left ≡ true = coded_more shape known d x xs left in
-    let none : more_data d.left ≡ false = ap more_data right ∙ stop_no_more d.taken in
-    absurd cc
-same_behind shape known zero d (x ∷ xs) (y ∷ ys) is_shape few few' p q left right =
-    let Read = IsRead shape in
-    let bound = prefix_bound shape in
-    let around = around_next shape known in
-    let text = macroblock_text shape around d.taken in
-    let p' : All Read xs = All-tail Read x xs p in
-    let q' : All Read ys = All-tail Read y ys q in
-    let one = sent_of shape x (All-head Read x xs p) left.0 in
-    let two = sent_of shape y (All-head Read y ys q) right.0 in
-    let same = same_rest (IsSent shape bound) text (no_other shape around d.taken is_shape) x y _ _ one two (sym left.1 ∙ right.1) in
-    let rest = same.1 ∙ ap (λ z. text_after shape (d.taken + length (text z)) (known ++ z ∷ []) 0 ys) (sym same.0) in
-    let tails : xs ≡ ys =
-    same_after shape (d.taken + length (text x)) (known ++ x ∷ []) xs ys (omega (arith, few)) (omega (arith, few')) p' q'
-    (λ count c l r. same_behind shape (known ++ x ∷ []) count c xs ys is_shape (omega (arith, few)) (omega (arith, few')) p' q' l r) rest in
-    let heads : x ≡ y = same.0 in
-    cc
-same_behind shape known (suc count) d [] ys is_shape few few' p q left right = absurd left
-same_behind shape known (suc count) d (x ∷ xs) [] is_shape few few' p q left right = absurd right
-same_behind shape known (suc count) d (x ∷ xs) (y ∷ ys) is_shape few few' p q left right =
-    let heads : x ≡ y = left.0 ∙ sym right.0 in
-    let tails : xs ≡ ys =
-    same_behind shape (known ++ x ∷ []) count d xs ys is_shape (omega (arith, few)) (omega (arith, few')) (All-tail (IsRead shape) x xs p) (All-tail (IsRead shape) y ys q) left.1
-    (subst (λ z. IsBehindRun shape (known ++ z ∷ []) count d ys) (sym heads) right.1) in
-    cc

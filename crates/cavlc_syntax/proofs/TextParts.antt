@@ -1,13 +1,13 @@
 -- The parts of a text of a slice from a place on.
-use Rattle.std.proofs.Common.{◌≡◌, ℕ, zero, suc, ◌+◌, ◌-◌, ◌%◌, ◌<◌, Bool, true, false, List, [], ◌∷◌, ◌++◌, length, replicate, refl, sym, ap, subst, ◌∙◌, arith}
+use Rattle.std.proofs.Common.{◌≡◌, ℕ, zero, suc, ◌+◌, ◌-◌, ◌%◌, ◌<◌, Bool, true, false, List, [], ◌∷◌, ◌++◌, length, replicate, refl, sym, ap, subst, ◌∙◌, length-append, arith}
 use Rattle.std.specs.List.{list_any}
 use Rattle.bit_texts.specs.Bits.{more_data}
 use Rattle.h264_types.specs.Kind.{is_skip}
 use Rattle.h264_types.specs.declared.macroblock.Mb.{Mb}
 use Rattle.h264_types.specs.declared.slice_shape.SliceShape.{SliceShape}
-use Rattle.cavlc_mb_residual.specs.Counts.{around_of}
-use Rattle.cavlc_mb_residual.specs.declared.counts.Around.{Around}
-use Rattle.cavlc_syntax.specs.SliceText.{stop_text, run_text, last_run_text, coded_text, text_after}
+use Rattle.cavlc_macroblock.specs.Macroblock.{macroblock_text}
+use Rattle.cavlc_macroblock.proofs.Layers.{text_some}
+use Rattle.cavlc_syntax.specs.SliceText.{stop_text, run_text, last_run_text, field_text, sends_field, around_next, coded_text, text_after}
 
 -- ---- a 1 bit behind other bits
 
@@ -29,17 +29,45 @@ stop_no_more n = zeros_only (7 - n % 8)
 
 -- ---- the parts of a text
 
--- what stands around the macroblock behind these
-abbrev pub around_next : SliceShape → List Mb → Around
-around_next shape before = around_of shape before (length before)
-
 -- the text of a macroblock that isn't skipped and of those behind it
 abbrev pub coded_after : SliceShape → List Mb → Mb → List Mb → ℕ → List Bool
 coded_after shape before mb tail n =
     let text = coded_text shape n before mb in
     text ++ text_after shape (n + length text) (before ++ mb ∷ []) 0 tail
 
--- the same, with the mb_skip_run before it
+-- the same, by whether the flag is sent, and the flag
+abbrev pub sent_after : SliceShape → Bool → Bool → List Mb → Mb → List Mb → ℕ → List Bool
+sent_after shape sends field before mb tail n =
+    let text = field_text sends field ++ macroblock_text shape (around_next shape field before) (n + length (field_text sends field)) mb in
+    text ++ text_after shape (n + length text) (before ++ mb ∷ []) 0 tail
+
+-- the same, behind the flag
+abbrev pub body_after : SliceShape → Bool → List Mb → Mb → List Mb → ℕ → List Bool
+body_after shape field before mb tail n =
+    let text = macroblock_text shape (around_next shape field before) n mb in
+    text ++ text_after shape (n + length text) (before ++ mb ∷ []) 0 tail
+
+pub without_flag : (shape : SliceShape) (field : Bool) (before : List Mb) (mb : Mb) (tail : List Mb) (n : ℕ) → sent_after shape false field before mb tail n ≡ body_after shape field before mb tail n
+without_flag shape field before mb tail n =
+    let same : n + 0 ≡ n = omega arith in
+    ap (λ k.
+    let text = macroblock_text shape (around_next shape field before) k mb in
+    text ++ text_after shape (n + length text) (before ++ mb ∷ []) 0 tail) same
+
+pub with_flag : (shape : SliceShape) (field : Bool) (before : List Mb) (mb : Mb) (tail : List Mb) (n : ℕ) → sent_after shape true field before mb tail n ≡ field ∷ body_after shape field before mb tail (n + 1)
+with_flag shape field before mb tail n =
+    let text = macroblock_text shape (around_next shape field before) (n + 1) mb in
+    let same : n + length (field ∷ text) ≡ n + 1 + length text = omega arith in
+    ap (λ k. field ∷ (text ++ text_after shape k (before ++ mb ∷ []) 0 tail)) same
+
+-- the flag and the macroblock are some bits
+pub coded_some : (shape : SliceShape) (n : ℕ) (before : List Mb) (mb : Mb) → 0 < length (coded_text shape n before mb)
+coded_some shape n before mb =
+    let flag = field_text (sends_field shape before) mb.field in
+    let text = macroblock_text shape (around_next shape mb.field before) (n + length flag) mb in
+    omega (arith, length-append flag text, text_some shape (around_next shape mb.field before) (n + length flag) mb)
+
+-- the text, with the mb_skip_run before it
 abbrev pub run_after : SliceShape → List Mb → Mb → List Mb → ℕ → ℕ → List Bool
 run_after shape before mb tail n run = run_text shape.kind run ++ coded_after shape before mb tail (n + length (run_text shape.kind run))
 

@@ -9,18 +9,13 @@ use Rattle.h264_types.proofs.ColumnLaws.{column_slice}
 use Rattle.cavlc_macroblock.specs.Macroblock.{macroblock_text}
 use Rattle.cavlc_macroblock.specs.MacroblockLayer.{layer_text}
 use Rattle.cavlc_syntax.specs.SliceText.{IsNotBeyond, HasText, stop_text, run_text, last_run_text, coded_text, text_after, slice_text}
-use Rattle.cavlc_syntax.proofs.Members.{all_read}
-use Rattle.cavlc_syntax.proofs.Runs.{same_after, same_behind}
+use Rattle.cavlc_syntax.proofs.Same.{same_text}
 use Rattle.cavlc_syntax.proofs.TextParts.{end_text, text_end, text_skip, text_coded, text_by}
 
 -- no bits are the text of two lists
 pub one_list : (shape : SliceShape) (pos : ℕ) (xs ys : List Mb) → HasText shape xs → HasText shape ys → slice_text shape pos xs ≡ slice_text shape pos ys → xs ≡ ys
 one_list shape pos xs ys p q e =
-    let few : length xs ≤ 4294967294 = omega (arith, p.slice.inside, p.slice.is_shape.size) in
-    let few' : length ys ≤ 4294967294 = omega (arith, q.slice.inside, q.slice.is_shape.size) in
-    let are = all_read shape xs p in
-    let are' = all_read shape ys q in
-    same_after shape pos [] xs ys few few' are are' (λ count d l r. same_behind shape [] count d xs ys p.slice.is_shape few few' are are' l r) e
+    same_text shape pos [] xs ys p q (λ half. refl) e
 
 -- ---- the end of a text
 
@@ -92,7 +87,6 @@ column_text : (shape : SliceShape) (column : ℕ) (mbs : List Mb) → column ≤
 column_text shape column mbs h has =
     let other : SliceShape = record shape { column = column } in
     record {
-      built = record { mbaff = has.built.mbaff };
       slice = column_slice shape column mbs h has.slice;
       within = All-weaker (IsNotBeyond shape) (IsNotBeyond other) (λ mb h. h) mbs has.within;
     }

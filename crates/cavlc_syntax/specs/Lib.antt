@@ -1,3 +1,4 @@
+pub mod Places
 pub mod SliceText
 pub mod Reading
 pub mod Kept

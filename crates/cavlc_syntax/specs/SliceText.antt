@@ -1,5 +1,5 @@
 -- The data of a slice, and the lists of macroblocks that have a text (ITU-T H.264, 7.3.4).
-use Rattle.std.specs.Prelude.{◌≡◌, ℕ, ◌+◌, ◌-◌, ◌%◌, ◌==◌, if◌then◌else◌, Bool, true, false, List, [], ◌∷◌, ◌++◌, length, replicate, All}
+use Rattle.std.specs.Prelude.{◌≡◌, ℕ, ◌+◌, ◌-◌, ◌%◌, ◌==◌, ◌&&◌, ◌||◌, if◌then◌else◌, Bool, true, false, List, [], ◌∷◌, ◌++◌, length, replicate, All}
 use Rattle.exp_golomb.specs.Code.{ue}
 use Rattle.cavlc_mb_residual.specs.Counts.{around_of}
 use Rattle.cavlc_mb_residual.specs.declared.counts.Around.{Around}
@@ -10,17 +10,9 @@ use Rattle.h264_types.specs.declared.macroblock.Mb.{Mb}
 use Rattle.h264_types.specs.declared.slice_shape.SliceShape.{SliceShape}
 use Rattle.h264_types.specs.declared.slice_shape.SliceKind.{SliceKind}
 use Rattle.h264_types.specs.declared.slice_shape.SliceKind.TheVariants as slices
-use Rattle.h264_types.specs.SliceShape.{IsSliceShape}
+use Rattle.h264_types.specs.Slice.{field_at, skipped_at}
 use Rattle.h264_types.specs.Valid.{IsSlice}
 use Rattle.slice_data.specs.Reading.{NoList as NoListOf}
-
--- the slices that are read and written: those outside MBAFF
-pub record IsBuilt (shape : SliceShape) : Type 0 where
-  pub mbaff : shape.mbaff ≡ false
-
-pub record IsBuiltShape (shape : SliceShape) : Type 0 where
-  pub is_shape : IsSliceShape shape
-  pub built : IsBuilt shape
 
 -- The greatest level_prefix: 15 in Main (9.2.2.1, A.2.2). In High it has no bound of its own, and none above 20 is needed.
 abbrev pub prefix_bound : SliceShape → ℕ
@@ -35,7 +27,6 @@ IsNotBeyond shape mb = is_beyond_in shape mb ≡ false
 
 -- the lists of macroblocks that have a text
 pub record HasText (shape : SliceShape) (mbs : List Mb) : Type 0 where
-  pub built : IsBuilt shape
   pub slice : IsSlice shape mbs
   pub within : All (IsNotBeyond shape) mbs
 
@@ -54,15 +45,51 @@ run_text slices.B run = ue run
 abbrev pub last_run_text : SliceKind → ℕ → List Bool
 last_run_text kind run = if run == 0 then [] else run_text kind run
 
+-- ---- pairs of an MBAFF frame
+
+-- Number k of a slice is the bottom of a pair. The slice begins with the top of one.
+abbrev pub is_bottom : SliceShape → ℕ → Bool
+is_bottom shape k = shape.mbaff && k % 2 == 1
+
+-- of the last one of these: its pair flag, and whether it is skipped
+abbrev pub last_field : List Mb → Bool
+last_field mbs = field_at mbs (length mbs - 1)
+
+abbrev pub is_last_skipped : List Mb → Bool
+is_last_skipped mbs = skipped_at mbs (length mbs - 1)
+
+-- whether mb_field_decoding_flag stands before a macroblock that isn't skipped, behind these: it is the top of its pair, or
+-- the bottom where the top is skipped
+abbrev pub sends_field : SliceShape → List Mb → Bool
+sends_field shape before = shape.mbaff && (length before % 2 == 0 || is_last_skipped before)
+
+-- ---- macroblocks that aren't skipped
+
+-- what stands around the macroblock behind these that has this pair flag
+abbrev pub around_next : SliceShape → Bool → List Mb → Around
+around_next shape field before = around_of shape before (length before) field
+
+-- mb_field_decoding_flag, where it is sent
+abbrev pub field_text : Bool → Bool → List Bool
+field_text sends field = if sends then field ∷ [] else []
+
+-- the flag, where it is sent, and the macroblock
+abbrev pub flagged_text : SliceShape → Bool → Around → ℕ → Mb → List Bool
+flagged_text shape sends around pos mb =
+    let flag = field_text sends mb.field in
+    flag ++ macroblock_text shape around (pos + length flag) mb
+
 -- a macroblock that isn't skipped, behind the macroblocks `before`: what the blocks beside it count is found in their list
 abbrev pub coded_text : SliceShape → ℕ → List Mb → Mb → List Bool
-coded_text shape pos before mb = macroblock_text shape (around_of shape before (length before)) pos mb
+coded_text shape pos before mb = flagged_text shape (sends_field shape before) (around_next shape mb.field before) pos mb
 
--- a macroblock that isn't skipped, with the mb_skip_run before it, behind `pos` bits
-abbrev pub put_text : SliceShape → Around → ℕ → ℕ → Mb → List Bool
-put_text shape around pos run mb =
+-- the same with the mb_skip_run before it, behind `pos` bits
+abbrev pub put_text : SliceShape → Bool → Around → ℕ → ℕ → Mb → List Bool
+put_text shape sends around pos run mb =
     let first = run_text shape.kind run in
-    first ++ macroblock_text shape around (pos + length first) mb
+    first ++ flagged_text shape sends around (pos + length first) mb
+
+-- ---- slices
 
 -- The text of `mbs` behind `pos` bits and the macroblocks `before`, of which the last `run` ones are skipped and in no
 -- mb_skip_run yet, to the end of the slice.

@@ -1,4 +1,4 @@
-ghost use Rattle.std.specs.Prelude.{◌≡◌, ◌≤◌};
+ghost use Rattle.std.specs.Prelude.{◌≡◌, ◌≤◌, Bool};
 ghost use Rattle.cavlc_macroblock.specs.Reading.{IsSent};
 ghost use Rattle.cavlc_mb_residual.specs.MacroblockResidual.{is_beyond_mb};
 ghost use Rattle.h264_types.specs.declared.slice_shape.SliceShape.{SliceShape};
@@ -24,7 +24,7 @@ pub fn prefix_bound(shape: &SliceShape) -> u8
 
 /// Whether some level of a macroblock needs a level_prefix above the bound.
 pub fn needs_longer_prefix(mb: &Mb, bound: u8) -> bool
-    requires sent { (shape : SliceShape) × IsSent shape 20 mb.now }
+    requires sent { (shape : SliceShape) × (field : Bool) × IsSent shape field 20 mb.now }
     requires within { bound ≤ 20 }
     ensures { result ≡ is_beyond_mb bound mb.now }
 {

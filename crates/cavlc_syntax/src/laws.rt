@@ -4,8 +4,8 @@ ghost use Rattle.std.specs.Prelude.{◌≡◌, ◌⊎◌, ◌+◌, ◌%◌, ◌<
 ghost use Rattle.cavlc_mb_residual.specs.Counts.{around_of};
 ghost use Rattle.h264_types.specs.declared.macroblock.Mb.{Mb};
 ghost use Rattle.h264_types.specs.declared.slice_shape.SliceShape.{SliceShape};
-ghost use Rattle.h264_types.specs.SliceShape.{without_column};
-ghost use Rattle.cavlc_syntax.specs.SliceText.{IsBuiltShape, HasText, slice_text, NoList};
+ghost use Rattle.h264_types.specs.SliceShape.{IsSliceShape, without_column};
+ghost use Rattle.cavlc_syntax.specs.SliceText.{around_next, HasText, slice_text, NoList};
 
 /// No bits are the text of two lists.
 pub fn one_list()
@@ -30,10 +30,10 @@ pub fn text_without_column()
 
 /// Bits are the text of a list, or of none.
 pub fn bits_are_decided()
-    ensures { (shape : SliceShape) (pos : ℕ) (bits : List Bool) → IsBuiltShape shape → ((mbs : List Mb) × HasText shape mbs × (bits ≡ slice_text shape pos mbs)) ⊎ NoList shape pos bits }
+    ensures { (shape : SliceShape) (pos : ℕ) (bits : List Bool) → IsSliceShape shape → ((mbs : List Mb) × HasText shape mbs × (bits ≡ slice_text shape pos mbs)) ⊎ NoList shape pos bits }
 {}
 
-/// What stands around a macroblock in the whole list is what the list before it tells.
+/// What stands around a macroblock in the whole list is what the list before it and its pair flag tell.
 pub fn the_list_before_tells_counts()
-    ensures { (shape : SliceShape) (before : List Mb) (mb : Mb) (behind : List Mb) → shape.mbaff ≡ false → 0 < shape.width → around_of shape (before ++ mb ∷ behind) (length before) ≡ around_of shape before (length before) }
+    ensures { (shape : SliceShape) (before : List Mb) (mb : Mb) (behind : List Mb) → 0 < shape.width → around_of shape (before ++ mb ∷ behind) (length before) mb.field ≡ around_next shape mb.field before }
 {}

@@ -1,12 +1,12 @@
 //! The data of a slice, read one macroblock at a time.
-ghost use Rattle.cavlc_syntax.specs.Kept.{AreOfShape};
+ghost use Rattle.cavlc_syntax.specs.Kept.{KeepsShape, AreOfShape};
 
-use crate::around::around_next;
 use crate::bound::prefix_bound;
 use crate::end::read_end;
+use crate::field::{is_bottom, read_field};
 use crate::run::read_run;
 use cavlc_macroblock::read_macroblock;
-use cavlc_mb_residual::Counts;
+use cavlc_mb_residual::{Around, Counts};
 use exp_golomb::BitSource;
 use h264_types::{Mb, MbKind, Rows, SliceShape};
 use slice_data::{SliceFault, SliceReader};
@@ -23,20 +23,25 @@ pub struct CavlcReader<B> {
     /// How many skipped macroblocks are still to be given, where an mb_skip_run above 0 was read. None: behind a macroblock
     /// that isn't skipped, and at the beginning.
     run: Option<u32>,
+    /// The pair flag of the last macroblock given. Behind a skipped top the mb_field_decoding_flag of the bottom was read
+    /// with the top.
+    field: bool,
+    ghost is_shape: { KeepsShape shape },
     ghost of_shape: { AreOfShape shape rows },
 }
 
 impl<B: BitSource> CavlcReader<B> {
-    ghost use Rattle.std.specs.Prelude.{◌≡◌, ◌<◌, ◌+◌, ◌-◌, ◌*◌, ◌∷◌, ◌++◌, [], ℕ, Bool, List, true, false, MatchBool, MatchOption, length, IfOk};
+    ghost use Rattle.std.specs.Prelude.{◌≡◌, ◌<◌, ◌+◌, ◌-◌, ◌*◌, [], ℕ, Bool, List, Some, true, false, MatchBool, length, IfOk};
     ghost use Rattle.bit_texts.specs.Bits.{more_data};
     ghost use Rattle.h264_types.specs.declared.macroblock.Mb.{Mb};
     ghost use Rattle.h264_types.specs.declared.slice_shape.SliceShape.{SliceShape};
-    ghost use Rattle.cavlc_syntax.specs.SliceText.{IsBuiltShape, NoList};
-    ghost use Rattle.cavlc_syntax.specs.Standing.{place_in, left_of, IsCodedNext, IsBehindRun, StandsBefore, StandsFor, Gave};
+    ghost use Rattle.h264_types.specs.SliceShape.{IsSliceShape};
+    ghost use Rattle.cavlc_syntax.specs.Places.{place_in};
+    ghost use Rattle.cavlc_syntax.specs.Standing.{left_of, IsAheadOfFlag, IsBehindRun, StandsBefore, StandsFor, Answers};
 
     /// A reader of the slice data that are left in `bits`, which go on to their end. Takes no bit.
     pub fn start(alloc: Global, shape: SliceShape, bits: B) -> Result<CavlcReader<B>, Memory>
-        requires { IsBuiltShape shape }
+        requires { IsSliceShape shape }
         ensures stands { IfOk result (λ reader. StandsFor (place_in B.taken B.left) reader shape (length (B.taken bits)) (B.left bits) []) }
         ensures bits { IfOk result (λ reader. reader.bits ≡ bits) }
     {
@@ -46,37 +51,50 @@ impl<B: BitSource> CavlcReader<B> {
             bits,
             rows,
             run: None,
+            field: false,
         })
     }
 
-    /// Gives a skipped macroblock, the first of a run of which so many are left then.
-    fn give_skipped(&mut self, left: u32, mb: &mut Mb)
+    /// Gives a skipped macroblock, the first of a run of which so many are left then, as `next_into` does.
+    fn give_skipped(&mut self, left: u32, mb: &mut Mb) -> Result<bool, SliceFault>
         requires { self.old.shape.first + self.old.rows.count < self.old.shape.width * self.old.shape.height }
         ensures { (shape : SliceShape) (pos : ℕ) (all : List Bool) (done : List Mb)
-            → StandsBefore self.old (left + 1) (IsBehindRun shape done (left + 1) (place_in B.taken B.left self.old.bits)) shape pos all done
-            → Gave (place_in B.taken B.left) self.new shape pos all (done ++ mb.new ∷ []) }
+            → StandsBefore self.old (Some (left + 1)) (IsBehindRun shape done (left + 1) (place_in B.taken B.left self.old.bits)) shape pos all done
+            → Answers B.taken B.left self.new shape pos all done mb.new result }
     {
-        let skipped = Mb::without_elements(MbKind::Skip);
+        let Some(field) = read_field(&mut self.bits, &self.shape, &self.rows, self.field, left)
+        else {
+            return Err(SliceFault::NoReading);
+        };
+        let mut skipped = Mb::without_elements(MbKind::Skip);
+        skipped.field = field;
         self.rows.push_coded(&skipped);
         self.run = Some(left);
+        self.field = field;
         *mb = skipped;
+        Ok(true)
     }
 
-    /// Reads a macroblock that isn't skipped. None: no list of macroblocks has the bits behind the header as its text.
-    fn read_coded(&mut self, mb: &mut Mb) -> Option<()>
+    /// Reads a macroblock that isn't skipped, as `next_into` does.
+    fn read_coded(&mut self, mb: &mut Mb) -> Result<bool, SliceFault>
         requires { self.old.shape.first + self.old.rows.count < self.old.shape.width * self.old.shape.height }
         ensures { (shape : SliceShape) (pos : ℕ) (all : List Bool) (done : List Mb)
-            → StandsBefore self.old 0 (IsCodedNext shape done (place_in B.taken B.left self.old.bits)) shape pos all done
-            → MatchOption result (NoList shape pos all) (λ _. Gave (place_in B.taken B.left) self.new shape pos all (done ++ mb.new ∷ [])) }
+            → StandsBefore self.old (Some 0) (IsAheadOfFlag shape done (place_in B.taken B.left self.old.bits)) shape pos all done
+            → Answers B.taken B.left self.new shape pos all done mb.new result }
     {
-        let around = around_next(&self.rows);
+        let Some(field) = read_field(&mut self.bits, &self.shape, &self.rows, self.field, 0) else {
+            return Err(SliceFault::NoReading);
+        };
+        let around = Around::of_next(&self.shape, &self.rows, field);
         let bound = prefix_bound(&self.shape);
-        let Some(()) = read_macroblock(&mut self.bits, &self.shape, &around, bound, mb) else {
-            return None;
+        let Some(()) = read_macroblock(&mut self.bits, &self.shape, field, &around, bound, mb)
+        else {
+            return Err(SliceFault::NoReading);
         };
         self.rows.push_coded(mb);
         self.run = None;
-        Some(())
+        self.field = field;
+        Ok(true)
     }
 
     /// Whether no macroblock stands behind those given.
@@ -106,7 +124,8 @@ impl<B: BitSource> CavlcReader<B> {
 
 impl<B: BitSource> SliceReader for CavlcReader<B> {
     ghost use Rattle.cavlc_syntax.specs.SliceText.{HasText, IsText};
-    ghost use Rattle.cavlc_syntax.specs.Standing.{place_in, StandsFor};
+    ghost use Rattle.cavlc_syntax.specs.Places.{place_in};
+    ghost use Rattle.cavlc_syntax.specs.Standing.{StandsFor};
 
     ghost has_data = { HasText };
 
@@ -118,7 +137,7 @@ impl<B: BitSource> SliceReader for CavlcReader<B> {
 
     fn next_into(&mut self, mb: &mut Mb) -> Result<bool, SliceFault> {
         if self.is_at_end() {
-            return if read_end(&mut self.bits) {
+            return if !is_bottom(&self.shape, self.rows.count()) && read_end(&mut self.bits) {
                 Ok(false)
             } else {
                 Err(SliceFault::NoReading)
@@ -132,12 +151,9 @@ impl<B: BitSource> SliceReader for CavlcReader<B> {
             return Err(SliceFault::NoReading);
         };
         if run > 0 {
-            self.give_skipped(run - 1, mb);
-            return Ok(true);
-        }
-        match self.read_coded(mb) {
-            Some(()) => Ok(true),
-            None => Err(SliceFault::NoReading),
+            self.give_skipped(run - 1, mb)
+        } else {
+            self.read_coded(mb)
         }
     }
 

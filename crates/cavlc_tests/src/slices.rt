@@ -1,6 +1,6 @@
 //! The data of slices in CAVLC (7.3.4): how many macroblocks are read, and where there is no reading.
 ghost use Rattle.std.specs.Prelude.{IsTrue};
-ghost use Rattle.cavlc_syntax.specs.SliceText.{IsBuiltShape};
+ghost use Rattle.h264_types.specs.SliceShape.{IsSliceShape};
 
 use cavlc_syntax::CavlcReader;
 use exp_golomb::{BitSource, SliceBits};
@@ -27,11 +27,11 @@ fn shape_of(kind: SliceKind, width: u32, height: u32) -> SliceShape {
     }
 }
 
-/// The shape is that of a slice outside MBAFF.
-fn is_built(shape: &SliceShape) -> bool
-    ensures { IsTrue result → IsBuiltShape shape.now }
+/// The shape is that of a slice.
+fn is_shape(shape: &SliceShape) -> bool
+    ensures { IsTrue result → IsSliceShape shape.now }
 {
-    shape.is_shape() && !shape.mbaff
+    shape.is_shape()
 }
 
 /// Each byte so many times.
@@ -64,7 +64,7 @@ fn read(
     shape: SliceShape,
     bits: SliceBits<'_>,
 ) -> Result<(u8, u8, Option<SliceFault>), Fail>
-    requires { IsBuiltShape shape }
+    requires { IsSliceShape shape }
 {
     let mut reader = CavlcReader::start(alloc, shape, bits)?;
     let (given, skipped, fault) = count(&mut reader);
@@ -113,7 +113,7 @@ static RUNS: [(SliceKind, u32, u32, &[u8], u8, u8, Option<SliceFault>); 14] = [
 fn runs_of_skipped_macroblocks(rt: HostRuntime) -> Result<(), Fail> {
     for (kind, width, height, bytes, count, skipped, fault) in &RUNS {
         let shape = shape_of(*kind, *width, *height);
-        assert!(rt; is_built(&shape));
+        assert!(rt; is_shape(&shape));
         assert!(rt; read(rt.alloc(), shape, SliceBits::new(bytes))? == (*count, *skipped, *fault));
     }
     Ok(())
@@ -197,11 +197,117 @@ static SAMPLES: [(u32, u8, &[(u16, u8)], u8, Option<SliceFault>); 8] = [
 fn slices_with_samples(rt: HostRuntime) -> Result<(), Fail> {
     for (width, before, runs, count, fault) in &SAMPLES {
         let shape = shape_of(SliceKind::I, *width, 1);
-        assert!(rt; is_built(&shape));
+        assert!(rt; is_shape(&shape));
         let bytes = bytes_of(rt.alloc(), runs)?;
         let mut bits = SliceBits::new(bytes.as_slice());
         assert!(rt; bits.skip(*before));
         assert!(rt; read(rt.alloc(), shape, bits)? == (*count, 0, *fault));
+    }
+    Ok(())
+}
+
+/// How many macroblocks a reader gives, the pair flags of the first six, and its refusal, if any.
+fn flags<R: SliceReader>(reader: &mut R) -> (u8, [bool; 6], Option<SliceFault>) {
+    let mut flags = [false; 6];
+    for count in 0..100u8 {
+        match reader.next() {
+            Ok(Step::Mb(mb)) => {
+                if let Some(flag) = flags.get_mut(usize::from(count)) {
+                    *flag = mb.field;
+                }
+            }
+            Ok(Step::End) => return (count, flags, None),
+            Err(fault) => return (count, flags, Some(fault)),
+        }
+    }
+    (100, flags, None)
+}
+
+/// Slices of MBAFF frames of one row of pairs: the kind, the width, the bytes, how many macroblocks are read, their pair
+/// flags, and the refusal.
+static PAIRS: [(
+    SliceKind,
+    u32,
+    &[(u16, u8)],
+    u8,
+    [bool; 6],
+    Option<SliceFault>,
+); 8] = [
+    // both are skipped: the flag is inferred
+    (SliceKind::P, 1, &[(1, 0x70)], 2, [false; 6], None),
+    // a skipped top has the flag of its bottom, I_PCM of a field pair
+    (
+        SliceKind::P,
+        1,
+        &[(1, 0x50), (1, 0xF8), (384, 0x80), (1, 0x80)],
+        2,
+        [true, true, false, false, false, false],
+        None,
+    ),
+    // two skipped pairs to the right of it are field pairs, too
+    (
+        SliceKind::P,
+        3,
+        &[(1, 0x50), (1, 0xF8), (384, 0x80), (1, 0x2C)],
+        6,
+        [true; 6],
+        None,
+    ),
+    // both are I_PCM: the flag stands before the top alone, and not before the bottom
+    (
+        SliceKind::I,
+        1,
+        &[
+            (1, 0x86),
+            (1, 0x80),
+            (384, 1),
+            (1, 0x0D),
+            (1, 0),
+            (384, 2),
+            (1, 0x80),
+        ],
+        2,
+        [true, true, false, false, false, false],
+        None,
+    ),
+    (
+        SliceKind::I,
+        1,
+        &[
+            (1, 0x06),
+            (1, 0x80),
+            (384, 1),
+            (1, 0x06),
+            (1, 0x80),
+            (384, 2),
+            (1, 0x80),
+        ],
+        1,
+        [false; 6],
+        NO_READING,
+    ),
+    // the end behind a skipped top, behind P_L0_16x16 as a top, and before the first one
+    (
+        SliceKind::P,
+        1,
+        &[(1, 0x50)],
+        1,
+        [true, false, false, false, false, false],
+        NO_READING,
+    ),
+    (SliceKind::P, 1, &[(1, 0xBE)], 1, [false; 6], NO_READING),
+    (SliceKind::P, 1, &[], 0, [false; 6], NO_READING),
+];
+
+#[test]
+fn slices_of_pairs(rt: HostRuntime) -> Result<(), Fail> {
+    for (kind, width, runs, count, fields, fault) in &PAIRS {
+        let mut shape = shape_of(*kind, *width, 2);
+        shape.mbaff = true;
+        assert!(rt; is_shape(&shape));
+        let bytes = bytes_of(rt.alloc(), runs)?;
+        let mut reader = CavlcReader::start(rt.alloc(), shape, SliceBits::new(bytes.as_slice()))?;
+        assert!(rt; flags(&mut reader) == (*count, *fields, *fault));
     }
     Ok(())
 }
