@@ -157,8 +157,11 @@ Completes-turn count n m bound s extra s0 extra0 t left0 left mid done more l h 
 
 -- ---- a level that is written
 
-pub coefficient_written : {T E : Type 0} (s e k n : ℕ) (l m : ℤ) (w : ℕ × ℕ) (old new : List Bool) (r : Result T E) → w ≡ level_word s (n - k) → n ≡ code_of m → m ≡ l → k ≡ e → Appends old new (word_bits s w) r → Appends old new (coefficient_text s e l) r
-coefficient_written s e k n l m w old new r word code level extra written =
-    let same : w ≡ level_word s (code_of l - e) = word ∙ ap (λ i. level_word s (i - k)) (code ∙ ap code_of level) ∙ ap (λ i. level_word s (code_of l - i)) extra in
-    let P : ℕ × ℕ → Type 0 = λ v. Appends old new (word_bits s v) r in
+-- the levelCode that is written, less `extra`
+pub coefficient_code : (k e n : ℕ) (l m : ℤ) → n ≡ code_of m → m ≡ l → k ≡ e → n - k ≡ code_of l - e
+coefficient_code k e n l m code level extra = ap (λ i. i - k) (code ∙ ap code_of level) ∙ ap (λ i. code_of l - i) extra
+
+pub coefficient_written : {T E : Type 0} (s e i : ℕ) (l : ℤ) (old new : List Bool) (r : Result T E) → i ≡ code_of l - e → Appends old new (word_bits s (level_word s i)) r → Appends old new (coefficient_text s e l) r
+coefficient_written s e i l old new r same written =
+    let P : ℕ → Type 0 = λ k. Appends old new (word_bits s (level_word s k)) r in
     subst P same written

@@ -1,5 +1,5 @@
 use Rattle.std.proofs.Common.{◌≡◌, ◌≢◌, drop-drop, length, take, drop, length-append, ℕ, zero, suc, ◌+◌, ◌-◌, ◌*◌, ◌/◌, ◌%◌, ◌^◌, ◌<◌, ◌≤◌, Bool, true, false, cond, List, [], ◌∷◌, ◌++◌, ltb, eqb, replicate, add-zero, zero-add, refl, sym, ap, ◌∙◌, subst, arith, ◌⊎◌, inl, inr, append_assoc, None, Result, add-one, leb}
-use Rattle.std.proofs.Math.Nat.{suc-add}
+use Rattle.std.proofs.Math.Nat.{suc-add, div-lt_iff_lt-mul}
 use Rattle.std.proofs.lemmas.Bool.{cases_lt, lt-ltb, le-ltb, eqb-true, leb-true}
 use Rattle.bit_texts.specs.Bits.{binary}
 use Rattle.bit_texts.specs.Texts.{Reads, IsPrefixFree, Appends}
@@ -179,6 +179,10 @@ low_word s code p x bound h k low prefix suffix within =
     let same : level_code s p x ≡ code = level_code-low s p x h (omega arith) ∙ parts in
     (sym (ap (level_word s) (sym same) ∙ level_word-level_code s p x h (omega arith, fits)), (within, fits))
 
+-- the bits of such a word, whose prefix tells that it is one
+pub low_code : (s code : ℕ) → code / 2 ^ s < 14 → code < 14 * 2 ^ s
+low_code s code h = (div-lt_iff_lt-mul (pow_pos s)).0 h
+
 pub low_above : (s code p bound : ℕ) → s < 7 → code < 14 * 2 ^ s → p ≡ code / 2 ^ s → bound < p → bound < (level_word s code).0
 low_above s code p bound h low prefix above =
     let few = low_prefix s code low in
@@ -228,6 +232,16 @@ level_bits-below p size x v fits e = omega (arith, pow_next size, pow_most (size
 pub level_written : {T E : Type 0} (s p size x v n : ℕ) (old new : List Bool) (r : Result T E) → size ≡ suffix_size s p → x < 2 ^ size → v ≡ 2 ^ size + x → n ≡ p + 1 + size → Appends old new (binary n v) r → Appends old new (word_bits s (p, x)) r
 level_written s p size x v n old new r same fits e count written =
     Appends-same old new (binary n v) (word_bits s (p, x)) r (ap (λ k. binary k v) count ∙ level_bits s p size x v same fits e) written
+
+pub word_written : {T E : Type 0} (s p size x v n : ℕ) (w : ℕ × ℕ) (old new : List Bool) (r : Result T E) → (p, x) ≡ w → size ≡ suffix_size s p → x < 2 ^ size → v ≡ 2 ^ size + x → n ≡ p + 1 + size → Appends old new (binary n v) r → Appends old new (word_bits s w) r
+word_written s p size x v n w old new r word same fits e count written =
+    Appends-same old new (word_bits s (p, x)) (word_bits s w) r (ap (word_bits s) word) (level_written s p size x v n old new r same fits e count written)
+
+-- that of a prefix below 14
+pub low_written : {T E : Type 0} (s code v n : ℕ) (old new : List Bool) (r : Result T E) → s < 7 → code / 2 ^ s < 14 → v ≡ 2 ^ s + code % 2 ^ s → n ≡ code / 2 ^ s + 1 + s → Appends old new (binary n v) r → Appends old new (word_bits s (level_word s code)) r
+low_written s code v n old new r h low e count written =
+    let word = low_word s code (code / 2 ^ s) (code % 2 ^ s) 20 h (omega arith) (low_code s code low) refl refl (omega (arith, low)) in
+    word_written s (code / 2 ^ s) s (code % 2 ^ s) v n (level_word s code) old new r word.0 (sym (suffix_size-low s (code / 2 ^ s) h low)) (mod_below code (2 ^ s) (pow_pos s)) e count written
 
 -- ---- a level in range needs no prefix above 20
 

@@ -1,13 +1,19 @@
-use Rattle.std.proofs.Common.{◌≡◌, ℕ, zero, suc, ◌+◌, ◌-◌, ◌*◌, ◌<◌, ◌≤◌, ℤ, pos, negsuc, Bool, true, false, cond, List, [], ◌∷◌, ◌++◌, length, get_or, take, drop, map, sum, filter, reverse, refl, sym, ap, ◌∙◌, subst, arith, add-zero, append_assoc, ◌⊎◌, inl, inr, w32, to_z, of_z, Result, IsErr}
+use Rattle.std.proofs.Common.{◌≡◌, ℕ, zero, suc, ◌+◌, ◌-◌, ◌*◌, ◌/◌, ◌%◌, ◌^◌, ◌<◌, ◌≤◌, ℤ, pos, negsuc, Bool, true, false, cond, List, [], ◌∷◌, ◌++◌, length, get_or, take, drop, map, sum, filter, reverse, refl, sym, ap, ◌∙◌, subst, arith, add-zero, append_assoc, ◌⊎◌, inl, inr, w32, to_z, of_z, eqb, Option, Some, None, Result, IsErr}
 use Rattle.std.specs.List.{AllByRecursion}
 use Rattle.std.proofs.lemmas.Int.{ints, to_z-of_z}
-use Rattle.std.proofs.lemmas.List.{append-nil, nil_from_length, reverse-append, drop_more, take_more, length-drop, length-reverse, take-append-drop}
+use Rattle.std.proofs.lemmas.List.{map-append, append-nil, nil_from_length, reverse-append, drop_more, take_more, length-drop, length-take-le, get_or_past, length-reverse, take-append-drop}
 use Rattle.std.proofs.lemmas.List.Sums.{sum_by-cons}
-use Rattle.std.proofs.lemmas.Bool.{cases_Bool}
+use Rattle.std.proofs.lemmas.Bool.{cases_Bool, le-ltb}
 use Rattle.cavlc_residual.proofs.Pieces.{AppendsFront, Appends-stop, Wrote-front}
 use Rattle.bit_texts.specs.Texts.{Appended, Appends, Wrote}
-use Rattle.bit_texts.proofs.Writing.{Appends-then, Appended-same, Wrote-next, Wrote-end}
-use Rattle.code_tables.specs.Codes.{Code, word_at}
+use Rattle.std.specs.Int.{from_bool}
+use Rattle.std.specs.Int.Signed.{lt_z}
+use Rattle.bit_texts.proofs.Numbers.{binary-add, binary-high, binary-push, pow_most, pow_next}
+use Rattle.std.proofs.lemmas.Nat.{shr_high, mul-add-lt, mul-lt, pow-add}
+use Rattle.bit_texts.proofs.Writing.{Appends-then, Appends-same, Appended-same, Wrote-next, Wrote-end}
+use Rattle.bit_texts.specs.Bits.{binary}
+use Rattle.code_tables.specs.Codes.{Code, IsCodeTable, code_at, present, word, word_at}
+use Rattle.cavlc_residual.proofs.WindowLemmas.{nothing_stands}
 use Rattle.code_tables.specs.CoeffToken.{coeff_token_list}
 use Rattle.code_tables.specs.RunBefore.{run_before_list}
 use Rattle.code_tables.specs.TotalZeros.{total_zeros_list}
@@ -82,6 +88,22 @@ runs-end left i rs old new text h wrote = Wrote-end old new text (runs_text left
   none [] h = refl
   none (x ∷ []) h = refl
   none (x ∷ y ∷ xs) h = absurd (omega arith)
+
+-- where no zeros are left no run is sent
+no_run : (x : ℕ) → word_at (run_before_list 0) x ≡ []
+unfolding run_before_list binary
+no_run x = let none : List Code = [] in ap word (get_or_past none x (0, 0) (omega arith))
+
+no_runs : (xs : List ℕ) → runs_text 0 xs ≡ []
+no_runs [] = refl
+no_runs (x ∷ []) = refl
+no_runs (x ∷ y ∷ xs) =
+    let left : 0 - x ≡ 0 = omega arith in
+    ap (λ t. t ++ runs_text (0 - x) (y ∷ xs)) (no_run x) ∙ (ap (λ n. runs_text n (y ∷ xs)) left ∙ no_runs (y ∷ xs))
+
+pub runs-none : (left i : ℕ) (rs : List ℕ) (old new text : List Bool) → left ≡ 0 → Wrote old new text (runs_text left (drop i rs)) → Appended old new text
+runs-none left i rs old new text none wrote =
+    Wrote-end old new text (runs_text left (drop i rs)) (ap (λ n. runs_text n (drop i rs)) none ∙ no_runs (drop i rs)) wrote
 
 -- ---- separating the levels from the zeros, from the highest frequency down
 
@@ -170,26 +192,109 @@ splits-end ds rest ls rs ss z none push known = (
   push ∙ sym (known.runs ∙ (ap (λ t. rs ++ (z + leading_zeros t) ∷ runs_of t) none ∙ ap (λ n. rs ++ n ∷ []) (add-zero z))),
 )
 
+pub none_left : (xs : List ℤ) (left : ℕ) → left ≤ 0 → reverse (take left xs) ≡ []
+none_left xs left h = ap (λ n. reverse (take n xs)) (let none : left ≡ 0 = omega arith in none)
+
+-- where no zero stands at the end, so many zeros are behind the levels
+pub zeros_behind : (xs : List ℤ) (count total : ℕ) → 0 < count → count ≤ length xs → is_nonzero (get_or xs (count - 1) (pos 0)) ≡ true → filter is_nonzero (reverse xs) ≡ filter is_nonzero (reverse (take count xs)) → runs_of (reverse xs) ≡ runs_of (reverse (take count xs)) → total ≡ length (filter is_nonzero (reverse xs)) → total + sum (runs_of (reverse xs)) ≡ count
+zeros_behind xs count total some within last same same_runs size =
+    let es = reverse (take count xs) in
+    let rest = reverse (take (count - 1) xs) in
+    let next : es ≡ get_or xs (count - 1) (pos 0) ∷ rest = down-next xs (count - 1) count (get_or xs (count - 1) (pos 0)) (omega (arith, some)) (omega (arith, some, within)) refl in
+    let front : leading_zeros es ≡ 0 = ap leading_zeros next ∙ ap (λ b. cond b 0 (leading_zeros rest + 1)) last in
+    let whole : length es ≡ count = length-reverse (take count xs) ∙ length-take-le count xs within in
+    omega (arith, length_parts es, front, whole, ap (λ (t : List ℤ). length t) same, ap sum same_runs, size)
+
 pub small_element : (xs ys : List ℤ) (i : ℕ) → xs ≡ ys → AllByRecursion (λ l. magnitude l ≤ 65535) ys → i < length xs → magnitude (get_or xs i (pos 0)) ≤ 65535
 small_element xs ys i e all h = let P : List ℤ → Type 0 = λ t. AllByRecursion (λ l. magnitude l ≤ 65535) t in all_at (λ l. magnitude l ≤ 65535) xs i (subst P (sym e) all) h
 
 -- ---- the text of the levels
 
-pub levels_stopped : {T E : Type 0} (ls signs : List ℤ) (o : ℕ) (old new : List Bool) (r : Result T E) → o ≡ trailing_ones ls → signs ≡ take o ls → AppendsFront old new (map is_minus signs) → IsErr r → Appends old new (levels_text ls) r
-levels_stopped ls signs o old new r ones front_is front err =
-    let P : List ℤ → Type 0 = λ t. AppendsFront old new (map is_minus t) in
-    Appends-stop old new (map is_minus (take (trailing_ones ls) ls)) _ r (subst P (front_is ∙ ap (λ n. take n ls) ones) front) err
-
-pub levels_written : {T E : Type 0} (ls signs others : List ℤ) (o s e : ℕ) (old mid new : List Bool) (r : Result T E) → o ≡ trailing_ones ls → signs ≡ take o ls → others ≡ drop o ls → s ≡ first_suffix_length (length ls) o → e ≡ first_extra o → Appended old mid (map is_minus signs) → Appends mid new (coefficients_text s e others) r → Appends old new (levels_text ls) r
-levels_written ls signs others o s e old mid new r ones front_is back_is length_is extra_is first second =
+pub levels_stopped : {T E : Type 0} (token text : List Bool) (ls signs : List ℤ) (o : ℕ) (old new : List Bool) (r : Result T E) → o ≡ trailing_ones ls → signs ≡ take o ls → text ≡ token ++ map is_minus signs → AppendsFront old new text → IsErr r → Appends old new (token ++ levels_text ls) r
+levels_stopped token text ls signs o old new r ones front_is text_is front err =
     let n = trailing_ones ls in
-    let front : signs ≡ take n ls = front_is ∙ ap (λ k. take k ls) ones in
-    let text : coefficients_text s e others ≡ coefficients_text (first_suffix_length (length ls) n) (first_extra n) (drop n ls) =
+    let rest = coefficients_text (first_suffix_length (length ls) n) (first_extra n) (drop n ls) in
+    let P : List Bool → Type 0 = λ t. AppendsFront old new t in
+    let start : text ≡ token ++ map is_minus (take n ls) = text_is ∙ ap (λ t. token ++ map is_minus t) (front_is ∙ ap (λ k. take k ls) ones) in
+    Appends-same old new _ _ r (append_assoc token (map is_minus (take n ls)) rest) (Appends-stop old new (token ++ map is_minus (take n ls)) rest r (subst P start front) err)
+
+pub levels_written : {T E : Type 0} (token text : List Bool) (ls signs others : List ℤ) (o s e : ℕ) (old mid new : List Bool) (r : Result T E) → o ≡ trailing_ones ls → signs ≡ take o ls → others ≡ drop o ls → s ≡ first_suffix_length (length ls) o → e ≡ first_extra o → text ≡ token ++ map is_minus signs → Appended old mid text → Appends mid new (coefficients_text s e others) r → Appends old new (token ++ levels_text ls) r
+levels_written token text ls signs others o s e old mid new r ones front_is back_is length_is extra_is text_is first second =
+    let n = trailing_ones ls in
+    let rest = coefficients_text (first_suffix_length (length ls) n) (first_extra n) (drop n ls) in
+    let start : text ≡ token ++ map is_minus (take n ls) = text_is ∙ ap (λ t. token ++ map is_minus t) (front_is ∙ ap (λ k. take k ls) ones) in
+    let others_text : coefficients_text s e others ≡ rest =
     ap (λ k. coefficients_text k e others) length_is ∙ (ap (λ k. coefficients_text (first_suffix_length (length ls) o) k others) extra_is
     ∙ (ap (coefficients_text (first_suffix_length (length ls) o) (first_extra o)) back_is
     ∙ ap (λ k. coefficients_text (first_suffix_length (length ls) k) (first_extra k) (drop k ls)) ones)) in
     let P : List Bool → Type 0 = λ t. Appends mid new t r in
-    Appends-then old mid new (map is_minus (take n ls)) _ r (Appended-same old mid (map is_minus signs) (map is_minus (take n ls)) (ap (map is_minus) front) first) (subst P text second)
+    Appends-same old new _ _ r (append_assoc token (map is_minus (take n ls)) rest)
+    (Appends-then old mid new (token ++ map is_minus (take n ls)) rest r (Appended-same old mid text _ start first) (subst P others_text second))
+
+-- ---- the signs as a number
+
+pub minus_test : (l : ℤ) → lt_z l (pos 0) ≡ is_minus l
+minus_test (pos n) = le-ltb n 0 (omega arith)
+minus_test (negsuc n) = refl
+
+pub signs-turn : (ls : List ℤ) (i signs bit : ℕ) → i < length ls → bit ≡ from_bool (is_minus (get_or ls i (pos 0))) → binary i signs ≡ map is_minus (take i ls) → signs < 2 ^ i → (binary (i + 1) (2 * signs + bit) ≡ map is_minus (take (i + 1) ls)) × (2 * signs + bit < 2 ^ (i + 1))
+signs-turn ls i signs bit h e known fits =
+    let minus = is_minus (get_or ls i (pos 0)) in (
+      ap (λ n. binary (i + 1) (2 * signs + n)) e ∙ (binary-push i signs minus ∙ (ap (λ t. t ++ minus ∷ []) known
+          ∙ (sym (map-append is_minus (take i ls) (get_or ls i (pos 0) ∷ [])) ∙ ap (map is_minus) (sym (take_more ls i (pos 0) h))))),
+      omega (arith, fits, pow_next i, e, from_bool-small minus),
+    )
+  where
+    from_bool-small : (b : Bool) → from_bool b ≤ 1
+    from_bool-small true = omega arith
+    from_bool-small false = omega arith
+
+pub signs_are : (n o x : ℕ) (signs : List ℤ) → length signs ≡ n → n ≡ o → binary (length signs) x ≡ map is_minus signs → binary o x ≡ map is_minus signs
+signs_are n o x signs size count known = ap (λ k. binary k x) (sym count ∙ sym size) ∙ known
+
+-- ---- a code word and a few bits behind it
+
+pub two_texts : (a b c d : List Bool) → a ≡ c → b ≡ d → a ++ b ≡ c ++ d
+two_texts a b c d e f = ap (λ t. t ++ b) e ∙ ap (λ t. c ++ t) f
+
+pub word_and : (l v n x y : ℕ) → v < 2 ^ l → x < 2 ^ n → y ≡ v * 2 ^ n + x → (binary (l + n) y ≡ binary l v ++ binary n x) × (y < 2 ^ (l + n))
+word_and l v n x y h k e =
+    let high : y / 2 ^ n ≡ v = ap (λ m. m / 2 ^ n) e ∙ shr_high v n x k in
+    let low : binary n y ≡ binary n x = ap (binary n) e ∙ binary-high n v x in
+    let turned : n + l ≡ l + n = omega arith in (
+      binary-add l n y ∙ (ap (λ m. binary l m ++ binary n y) high ∙ ap (λ t. binary l v ++ t) low),
+      omega (arith, e, mul-add-lt v (2 ^ n) x (2 ^ l) h k, pow-add 2 n l, ap (λ m. 2 ^ m) turned),
+    )
+
+-- the word has at most 16 bits
+pub shifted_word : (l v n : ℕ) → l ≤ 16 → v < 2 ^ l → n ≤ 3 → (v * 2 ^ n % 18446744073709551616 ≡ v * 2 ^ n) × (v * 2 ^ n < 589824)
+shifted_word l v n few h k =
+    let word : v < 65536 = omega (arith, h, pow_most l 16 few) in
+    let size : 2 ^ n < 9 = omega (arith, pow_most n 3 k) in
+    let below = mul-lt v (2 ^ n) 65536 9 word size in
+    (omega (arith, below), omega (arith, below))
+
+pub code_stands : (codes : List Code) (place l v : ℕ) (o : Option Code) → o ≡ present (code_at codes place) → o ≡ Some (l, v) → (l, v) ≡ code_at codes place
+code_stands codes place l v o entry some = of (code_at codes place) (cases_Bool (eqb (code_at codes place).0 0)) (sym entry ∙ some)
+  where
+    of : (c : Code) → (eqb c.0 0 ≡ true) ⊎ (eqb c.0 0 ≡ false) → present c ≡ Some (l, v) → (l, v) ≡ c
+    of c (inl e) h =
+        let P : Bool → Type 0 = λ b. cond b None (Some c) ≡ Some (l, v) in
+        absurd (let bad : ◌≡◌ {A = Option Code} None (Some (l, v)) = subst P e h in cc)
+    of c (inr e) h =
+        let P : Bool → Type 0 = λ b. cond b None (Some c) ≡ Some (l, v) in
+        let same : ◌≡◌ {A = Option Code} (Some c) (Some (l, v)) = subst P e h in cc
+
+pub code_and : (codes : List Code) (place l v n x y : ℕ) → IsCodeTable codes → (l, v) ≡ code_at codes place → n ≤ 3 → x < 2 ^ n → y ≡ v * 2 ^ n % 18446744073709551616 + x → (binary (l + n) y ≡ word_at codes place ++ binary n x) × (y < 2 ^ (l + n))
+code_and codes place l v n x y table here few below e =
+    let Fits : Code → Type 0 = λ c. (c.0 ≤ 16) × (c.1 < 2 ^ c.0) in
+    let fits = subst Fits (sym here) (table.fits place) in
+    let both = word_and l v n x y fits.1 below (e ∙ ap (λ m. m + x) (shifted_word l v n fits.0 fits.1 few).0) in
+    (both.0 ∙ ap (λ c. word c ++ binary n x) here, both.1)
+
+pub none_and : (codes : List Code) (place n x : ℕ) (o : Option Code) → o ≡ present (code_at codes place) → o ≡ None → binary n x ≡ word_at codes place ++ binary n x
+none_and codes place n x o entry none =
+    let nothing : [] ≡ word_at codes place = (nothing_stands codes place o [] entry none).is in ap (λ t. t ++ binary n x) nothing
 
 -- ---- the text of a block, part by part
 
@@ -201,24 +306,27 @@ pub zeros_word : (max t z : ℕ) (codes : List Code) (ls : List ℤ) (rs : List 
 zeros_word max t z codes ls rs e total zero_count =
     ap (λ cs. word_at cs z) (e ∙ ap (total_zeros_list max) total) ∙ ap (word_at (total_zeros_list max (length ls))) zero_count
 
-pub parts_end_at_token : {T E : Type 0} (nc : ℤ) (max : ℕ) (ls : List ℤ) (rs : List ℕ) (text old new : List Bool) (r : Result T E) → text ≡ word_at (coeff_token_list nc) (4 * length ls + trailing_ones ls) → AppendsFront old new text → IsErr r → Appends old new (parts_text nc max ls rs) r
-parts_end_at_token nc max ls rs text old new r e front err =
-    let P : List Bool → Type 0 = λ t. AppendsFront old new t in Appends-stop old new _ _ r (subst P e front) err
+-- coeff_token and the levels
+abbrev front_text : ℤ → List ℤ → List Bool
+front_text nc ls = word_at (coeff_token_list nc) (4 * length ls + trailing_ones ls) ++ levels_text ls
 
-pub parts_end_at_levels : {T E : Type 0} (nc : ℤ) (max : ℕ) (ls : List ℤ) (rs : List ℕ) (text old mid new : List Bool) (r : Result T E) → text ≡ word_at (coeff_token_list nc) (4 * length ls + trailing_ones ls) → Appended old mid text → AppendsFront mid new (levels_text ls) → IsErr r → Appends old new (parts_text nc max ls rs) r
-parts_end_at_levels nc max ls rs text old mid new r e first front err =
-    Appends-then old mid new _ _ r (Appended-same old mid text _ e first) (Appends-stop mid new (levels_text ls) _ r front err)
+parts_same : {T E : Type 0} (nc : ℤ) (max : ℕ) (ls : List ℤ) (rs : List ℕ) (old new : List Bool) (r : Result T E) → Appends old new (front_text nc ls ++ (word_at (total_zeros_list max (length ls)) (sum rs) ++ runs_text (sum rs) rs)) r → Appends old new (parts_text nc max ls rs) r
+parts_same nc max ls rs old new r appends =
+    Appends-same old new _ _ r (append_assoc (word_at (coeff_token_list nc) (4 * length ls + trailing_ones ls)) (levels_text ls) (word_at (total_zeros_list max (length ls)) (sum rs) ++ runs_text (sum rs) rs)) appends
 
-pub parts_end_at_zeros : {T E : Type 0} (nc : ℤ) (max : ℕ) (ls : List ℤ) (rs : List ℕ) (text behind old mid next new : List Bool) (r : Result T E) → text ≡ word_at (coeff_token_list nc) (4 * length ls + trailing_ones ls) → Appended old mid text → Appended mid next (levels_text ls) → behind ≡ word_at (total_zeros_list max (length ls)) (sum rs) → AppendsFront next new behind → IsErr r → Appends old new (parts_text nc max ls rs) r
-parts_end_at_zeros nc max ls rs text behind old mid next new r e first second d front err =
-    let P : List Bool → Type 0 = λ t. AppendsFront next new t in
-    Appends-then old mid new _ _ r (Appended-same old mid text _ e first) (Appends-then mid next new (levels_text ls) _ r second (Appends-stop next new _ _ r (subst P d front) err))
+pub parts_end_at_levels : {T E : Type 0} (nc : ℤ) (max : ℕ) (ls : List ℤ) (rs : List ℕ) (old new : List Bool) (r : Result T E) → AppendsFront old new (front_text nc ls) → IsErr r → Appends old new (parts_text nc max ls rs) r
+parts_end_at_levels nc max ls rs old new r front err = parts_same nc max ls rs old new r (Appends-stop old new (front_text nc ls) _ r front err)
 
-pub parts_written : {T E : Type 0} (nc : ℤ) (max z : ℕ) (ls : List ℤ) (rs : List ℕ) (text behind old mid next last new : List Bool) (r : Result T E) → text ≡ word_at (coeff_token_list nc) (4 * length ls + trailing_ones ls) → Appended old mid text → Appended mid next (levels_text ls) → behind ≡ word_at (total_zeros_list max (length ls)) (sum rs) → Appended next last behind → z ≡ sum rs → Appends last new (runs_text z rs) r → Appends old new (parts_text nc max ls rs) r
-parts_written nc max z ls rs text behind old mid next last new r e first second d third total final =
-    let P : ℕ → Type 0 = λ n. Appends last new (runs_text n rs) r in
-    Appends-then old mid new _ _ r (Appended-same old mid text _ e first) (Appends-then mid next new (levels_text ls) _ r second
-    (Appends-then next last new _ _ r (Appended-same next last behind _ d third) (subst P total final)))
+pub parts_end_at_zeros : {T E : Type 0} (nc : ℤ) (max : ℕ) (ls : List ℤ) (rs : List ℕ) (behind old mid new : List Bool) (r : Result T E) → Appended old mid (front_text nc ls) → behind ≡ word_at (total_zeros_list max (length ls)) (sum rs) → AppendsFront mid new behind → IsErr r → Appends old new (parts_text nc max ls rs) r
+parts_end_at_zeros nc max ls rs behind old mid new r first d front err =
+    let P : List Bool → Type 0 = λ t. AppendsFront mid new t in
+    parts_same nc max ls rs old new r (Appends-then old mid new (front_text nc ls) _ r first (Appends-stop mid new _ _ r (subst P d front) err))
+
+pub parts_written : {T E : Type 0} (nc : ℤ) (max z : ℕ) (ls : List ℤ) (rs : List ℕ) (behind old mid next new : List Bool) (r : Result T E) → Appended old mid (front_text nc ls) → behind ≡ word_at (total_zeros_list max (length ls)) (sum rs) → Appended mid next behind → z ≡ sum rs → Appends next new (runs_text z rs) r → Appends old new (parts_text nc max ls rs) r
+parts_written nc max z ls rs behind old mid next new r first d second total final =
+    let P : ℕ → Type 0 = λ n. Appends next new (runs_text n rs) r in
+    parts_same nc max ls rs old new r (Appends-then old mid new (front_text nc ls) _ r first
+    (Appends-then mid next new _ _ r (Appended-same mid next behind _ d second) (subst P total final)))
 
 -- a block without levels has no bits behind its coeff_token
 pub empty_text : (nc : ℤ) (levels : List ℤ) → total_coeff levels ≡ 0 → word_at (coeff_token_list nc) 0 ≡ block_text nc levels
@@ -230,13 +338,6 @@ empty_text nc levels none =
     let behind : word_at (total_zeros_list (length levels) 0) 0 ≡ [] = sym (append-nil (word_at (total_zeros_list (length levels) 0) 0)) ∙ sym ((zeros_none (length levels) 0 [] (inl refl) (omega arith)).1) in
     sym (ap (λ t. parts_text nc (length levels) t (runs_of ds)) no_levels ∙ (ap (parts_text nc (length levels) []) no_runs
     ∙ (ap (λ t. word_at (coeff_token_list nc) (4 * 0 + 0) ++ (t ++ [])) behind ∙ append-nil (word_at (coeff_token_list nc) (4 * 0 + 0)))))
-
-pub empty_written : (nc : ℤ) (max : ℕ) (ls : List ℤ) (rs : List ℕ) (text old new : List Bool) → length ls ≡ 0 → length rs ≡ length ls → text ≡ word_at (coeff_token_list nc) (4 * length ls + trailing_ones ls) → Appended old new text → Appended old new (parts_text nc max ls rs)
-empty_written nc max [] [] text old new none pairs e written =
-    let behind : word_at (total_zeros_list max 0) 0 ≡ [] = sym (append-nil (word_at (total_zeros_list max 0) 0)) ∙ sym ((zeros_none max 0 [] (inl refl) (omega arith)).1) in
-    Appended-same old new text (parts_text nc max [] []) (e ∙ sym (ap (λ t. word_at (coeff_token_list nc) (4 * 0 + 0) ++ (t ++ [])) behind ∙ append-nil (word_at (coeff_token_list nc) (4 * 0 + 0)))) written
-empty_written nc max [] (r ∷ rs) text old new none pairs e written = absurd (omega (arith, pairs))
-empty_written nc max (l ∷ ls) rs text old new none pairs e written = absurd (omega (arith, none))
 
 -- the two parts of a slice that is split behind the trailing ones
 pub split_front : (n o : ℕ) (xs ls : List ℤ) → n ≡ o → xs ≡ ls → take n xs ≡ take o ls
@@ -281,10 +382,6 @@ levels_known bound levels cs h found small within =
     let known = found_known levels cs found small in
     let are = levels_are bound cs (ap (levels_above bound) found ∙ within) known.0 known.1 in
     record { count = are.count; ones = are.ones; others = coefficients_weaker bound _ _ _ h are.others }
-
-pub zeros_fit : (levels cs : List ℤ) (rs : List ℕ) → cs ≡ filter is_nonzero (reverse levels) → rs ≡ runs_of (reverse levels) → length cs + sum rs ≤ length levels
-zeros_fit levels cs rs found runs =
-    omega (arith, length_parts (reverse levels), length-reverse levels, ap (λ (t : List ℤ). length t) found, ap sum runs)
 
 pub text_is : (nc : ℤ) (max : ℕ) (levels cs : List ℤ) (rs : List ℕ) → cs ≡ filter is_nonzero (reverse levels) → rs ≡ runs_of (reverse levels) → max ≡ length levels → parts_text nc max cs rs ≡ block_text nc levels
 text_is nc max levels cs rs found runs size =

@@ -59,6 +59,6 @@ pub fn is_beyond(levels: &[i32], bound: u8) -> bool
 {
     let mut coefficients = Coefficients::new();
     let mut runs = Runs::new();
-    separate(levels, &mut coefficients, &mut runs);
+    let _zeros = separate(levels, &mut coefficients, &mut runs);
     levels_above(&coefficients, bound)
 }

@@ -1,7 +1,9 @@
-ghost use Rattle.std.specs.Prelude.{◌≡◌, ◌≢◌, ◌↔◌, true, ◌+◌, ◌≤◌, ◌++◌, pos, length, sum, replicate, IfSome, option_map};
+ghost use Rattle.std.specs.Prelude.{◌≡◌, ◌≢◌, ◌↔◌, true, ◌+◌, ◌*◌, ◌≤◌, ◌++◌, pos, length, sum, replicate, IfSome, option_map};
 ghost use Rattle.std.specs.List.{AllByRecursion};
 ghost use Rattle.arrayvec.specs.ArrayVec.{array_vec_len};
 ghost use Rattle.bit_texts.specs.Texts.{Reads, Appends};
+ghost use Rattle.code_tables.specs.Codes.{word_at};
+ghost use Rattle.code_tables.specs.CoeffToken.{coeff_token_list};
 ghost use Rattle.cavlc_residual.specs.Coefficients.{magnitude};
 ghost use Rattle.cavlc_residual.specs.Block.{IsShape, trailing_ones, total_coeff, levels_text, parts_text, block_text, is_beyond, IsBlock};
 ghost use Rattle.cavlc_residual.specs.Parts.{AreLevels};
@@ -11,8 +13,8 @@ use crate::coefficients::Coefficients;
 use crate::fault::BlockFault;
 use crate::parts::{extra_first, read_nonzero, read_token, suffix_length_first};
 use crate::runs::{Runs, read_runs, read_total_zeros};
-use crate::words::write_code;
-use crate::writing::{count_ones, separate, write_coefficients, write_runs, write_signs};
+use crate::words::{write_code, write_code_and};
+use crate::writing::{count_ones, separate, signs_of, write_coefficients, write_runs};
 use code_tables::{coeff_token_table, total_zeros_table};
 use exp_golomb::{BitSink, BitSource};
 use h264_types::Levels;
@@ -78,15 +80,21 @@ fn levels_of(list: &[i32]) -> Levels
     levels
 }
 
-/// Appends the text of the levels other than 0.
-fn write_nonzero<B: BitSink>(b: &mut B, levels: &Coefficients, ones: u8) -> Result<(), Memory>
-    requires ones { ones ≡ trailing_ones levels.now.items }
-    requires levels { AreLevels (array_vec_len levels.now, ones) 20 levels.now.items }
-    ensures { Appends (B.bits b.old) (B.bits b.new) (levels_text levels.now.items) result }
+/// Appends coeff_token and the text of the levels other than 0.
+fn write_nonzero<B: BitSink>(b: &mut B, nc: i8, levels: &Coefficients) -> Result<(), Memory>
+    requires { AreLevels (array_vec_len levels.now, trailing_ones levels.now.items) 20 levels.now.items }
+    ensures { Appends (B.bits b.old) (B.bits b.new) (word_at (coeff_token_list nc) (4 * length levels.now.items + trailing_ones levels.now.items) ++ levels_text levels.now.items) result }
 {
     let total = levels.len() as u8;
+    let ones = count_ones(levels.as_slice());
     let (signs, others) = levels.as_slice().split_at(usize::from(ones));
-    write_signs(b, signs)?;
+    write_code_and(
+        b,
+        &coeff_token_table(nc),
+        usize::from(4 * total + ones),
+        signs_of(signs),
+        ones,
+    )?;
     write_coefficients(
         b,
         others,
@@ -95,37 +103,23 @@ fn write_nonzero<B: BitSink>(b: &mut B, levels: &Coefficients, ones: u8) -> Resu
     )
 }
 
-/// How many zeros stand behind levels.
-fn count_zeros(runs: &Runs) -> u8
-    requires { sum runs.now.items ≤ 16 }
-    ensures { result ≡ sum runs.now.items }
-{
-    runs.as_slice().iter().sum()
-}
-
-/// Appends the text of a block whose parts are these.
+/// Appends the text of a block whose parts are these, with the sum of the runs.
 fn write_parts<B: BitSink>(
     b: &mut B,
     nc: i8,
     max: u8,
     levels: &Coefficients,
     runs: &Runs,
+    zeros: u8,
 ) -> Result<(), Memory>
     requires max { max ≤ 16 }
     requires levels { AreLevels (array_vec_len levels.now, trailing_ones levels.now.items) 20 levels.now.items }
-    requires zeros { array_vec_len levels.now + sum runs.now.items ≤ max }
-    requires pairs { array_vec_len runs.now ≡ array_vec_len levels.now }
+    requires zeros { zeros ≡ sum runs.now.items }
     ensures { Appends (B.bits b.old) (B.bits b.new) (parts_text nc max levels.now.items runs.now.items) result }
 {
-    let total = levels.len() as u8;
-    let ones = count_ones(levels.as_slice());
-    let zeros = count_zeros(runs);
-    write_code(b, &coeff_token_table(nc), usize::from(4 * total + ones))?;
-    if total == 0 {
-        return Ok(());
-    }
-    write_nonzero(b, levels, ones)?;
-    write_code(b, &total_zeros_table(max, total), usize::from(zeros))?;
+    write_nonzero(b, nc, levels)?;
+    let table = total_zeros_table(max, levels.len() as u8);
+    write_code(b, &table, usize::from(zeros))?;
     write_runs(b, zeros, runs.as_slice())
 }
 
@@ -146,11 +140,11 @@ pub fn write_levels<B: BitSink>(
 {
     let mut coefficients = Coefficients::new();
     let mut runs = Runs::new();
-    separate(levels, &mut coefficients, &mut runs);
+    let zeros = separate(levels, &mut coefficients, &mut runs);
     if levels_above(&coefficients, bound) {
         return Err(BlockFault::Beyond);
     }
-    write_parts(b, nc, levels.len() as u8, &coefficients, &runs)?;
+    write_parts(b, nc, levels.len() as u8, &coefficients, &runs, zeros)?;
     Ok(())
 }
 

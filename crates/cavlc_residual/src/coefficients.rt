@@ -96,11 +96,7 @@ pub fn write_coefficient<B: BitSink>(
     requires level { IsCoefficient suffix_length extra 20 level }
     ensures { Appends (B.bits b.old) (B.bits b.new) (coefficient_text suffix_length extra level) result }
 {
-    let code = level_code_of(level) - u32::from(extra);
-    let Some((prefix, suffix)) = level_of_code(suffix_length, code, 20) else {
-        unreachable!();
-    };
-    write_level(b, suffix_length, prefix, suffix)
+    write_level(b, suffix_length, level_code_of(level) - u32::from(extra))
 }
 
 /// Reads `count` levels, the first of which has `extra` taken off its levelCode, and appends them to a list.

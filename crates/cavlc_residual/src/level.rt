@@ -114,17 +114,34 @@ pub fn level_of_code(suffix_length: u8, code: u32, bound: u8) -> Option<(u8, u32
     None
 }
 
-/// Appends level_prefix and level_suffix.
-pub fn write_level<B: BitSink>(
-    b: &mut B,
-    suffix_length: u8,
-    prefix: u8,
-    suffix: u32,
-) -> Result<(), Memory>
+/// Appends level_prefix and level_suffix of a levelCode. Each prefix below 14 is that of 2^suffix_length codes.
+pub fn write_level<B: BitSink>(b: &mut B, suffix_length: u8, code: u32) -> Result<(), Memory>
     requires small { suffix_length ≤ 6 }
-    requires is_word { IsLevelWord suffix_length 20 (prefix, suffix) }
-    ensures { Appends (B.bits b.old) (B.bits b.new) (word_bits suffix_length (prefix, suffix)) result }
+    requires within { (level_word suffix_length code).0 ≤ 20 }
+    ensures { Appends (B.bits b.old) (B.bits b.new) (word_bits suffix_length (level_word suffix_length code)) result }
 {
+    let prefix = code >> suffix_length;
+    if prefix > 13 {
+        return write_long_level(b, suffix_length, code);
+    }
+    let codes = 1u32 << suffix_length;
+    b.put_bits(
+        u64::from(codes + code % codes),
+        prefix as u8 + 1 + suffix_length,
+    )
+}
+
+/// The same of a levelCode whose level_prefix is 14 or more.
+#[cold]
+#[inline(never)]
+fn write_long_level<B: BitSink>(b: &mut B, suffix_length: u8, code: u32) -> Result<(), Memory>
+    requires small { suffix_length ≤ 6 }
+    requires within { (level_word suffix_length code).0 ≤ 20 }
+    ensures { Appends (B.bits b.old) (B.bits b.new) (word_bits suffix_length (level_word suffix_length code)) result }
+{
+    let Some((prefix, suffix)) = level_of_code(suffix_length, code, 20) else {
+        unreachable!();
+    };
     let size = size_of_suffix(suffix_length, prefix);
     b.put_bits((1 << size) + u64::from(suffix), prefix + 1 + size)
 }

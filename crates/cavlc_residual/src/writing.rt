@@ -1,6 +1,7 @@
-ghost use Rattle.std.specs.Prelude.{◌≡◌, ◌-◌, ◌<◌, ◌≤◌, true, [], length, map, take, filter, reverse, sum, pos, slice_index_or};
+ghost use Rattle.std.specs.Prelude.{◌≡◌, ◌-◌, ◌<◌, ◌≤◌, ◌^◌, true, [], length, map, take, filter, reverse, sum, pos, slice_index_or};
 ghost use Rattle.std.specs.List.{AllByRecursion};
 ghost use Rattle.arrayvec.specs.ArrayVec.{array_vec_len};
+ghost use Rattle.bit_texts.specs.Bits.{binary};
 ghost use Rattle.bit_texts.specs.Texts.{Appends};
 ghost use Rattle.cavlc_residual.specs.Coefficients.{magnitude, is_minus, coefficients_text, AreCoefficients};
 ghost use Rattle.cavlc_residual.specs.Block.{is_nonzero, runs_of, is_one as one_test, trailing_ones, runs_text};
@@ -58,7 +59,8 @@ fn count_before_zeros(levels: &[i32]) -> usize
 }
 
 /// Puts the levels other than 0, from the highest frequency down, and the runs of zeros behind them into two empty lists.
-pub fn separate(levels: &[i32], coefficients: &mut Coefficients, runs: &mut Runs)
+/// Answers how many zeros those runs are.
+pub fn separate(levels: &[i32], coefficients: &mut Coefficients, runs: &mut Runs) -> u8
     requires few { length levels.now ≤ 16 }
     requires small { AllByRecursion (λ l. magnitude l ≤ 65535) levels.now }
     requires empty { coefficients.old.items ≡ [] }
@@ -67,10 +69,11 @@ pub fn separate(levels: &[i32], coefficients: &mut Coefficients, runs: &mut Runs
     ensures runs { runs.new.items ≡ runs_of (reverse levels.now) }
     ensures pairs { array_vec_len runs.new ≡ array_vec_len coefficients.new }
     ensures few { array_vec_len coefficients.new ≤ length levels.now }
+    ensures zeros { result ≡ sum runs.new.items }
 {
     let count = count_before_zeros(levels);
     if count == 0 {
-        return;
+        return 0;
     }
     coefficients.push(levels[count - 1]);
     let mut zeros = 0u8;
@@ -87,6 +90,7 @@ pub fn separate(levels: &[i32], coefficients: &mut Coefficients, runs: &mut Runs
         }
     }
     runs.push(zeros);
+    (count - coefficients.len()) as u8
 }
 
 /// How many trailing ones there are.
@@ -107,14 +111,17 @@ fn is_one(level: i32) -> bool
     level == 1 || level == -1
 }
 
-/// Appends the signs of trailing ones.
-pub fn write_signs<B: BitSink>(b: &mut B, ones: &[i32]) -> Result<(), Memory>
-    ensures { Appends (B.bits b.old) (B.bits b.new) (map is_minus ones.now) result }
+/// The signs of trailing ones as a number of as many bits.
+pub fn signs_of(ones: &[i32]) -> u64
+    requires { length ones.now ≤ 3 }
+    ensures bits { binary (length ones.now) result ≡ map is_minus ones.now }
+    ensures fits { result < 2 ^ length ones.now }
 {
+    let mut signs = 0;
     for i in 0..ones.len() {
-        b.put(ones[i] < 0)?;
+        signs = 2 * signs + u64::from(ones[i] < 0);
     }
-    Ok(())
+    signs
 }
 
 /// Appends the levels behind the trailing ones.
@@ -146,6 +153,9 @@ pub fn write_runs<B: BitSink>(b: &mut B, zeros: u8, runs: &[u8]) -> Result<(), M
 {
     let mut left = zeros;
     for i in 0..runs.len().saturating_sub(1) {
+        if left == 0 {
+            return Ok(());
+        }
         let run = runs[i];
         write_run(b, left, run)?;
         left -= run;

@@ -1,5 +1,5 @@
-use Rattle.std.proofs.Common.{◌<◌, ◌-◌, ◌++◌, ◌∷◌, [], pos, length, get_or, refl, ap, ◌∙◌, arith, to_z, of_z, w32}
-use Rattle.cavlc_residual.proofs.WriteLemmas.{splits-start, splits-level, down-next, nonzero_i32, small_element, same_i32}
+use Rattle.std.proofs.Common.{List, ℤ, sum, ◌<◌, ◌-◌, ◌++◌, ◌∷◌, [], pos, length, get_or, refl, ap, ◌∙◌, arith, to_z, of_z, w32}
+use Rattle.cavlc_residual.proofs.WriteLemmas.{splits-start, splits-level, splits-end, none_left, zeros_behind, down-next, nonzero_i32, small_element, same_i32}
 use Rattle.cavlc_residual.proofs.writing.separate.Goals as goal
 
 pub loop-left-init : goal.loop-left-init
@@ -38,3 +38,19 @@ loop-left-preserved c =
       count = omega (arith, c.push-else-level-eq0.ensures.len, known.count, c.loop-left-test.true);
       pairs = omega (arith, c.push-else-level-eq0.ensures.len, c.push-else-level-eq0-2.ensures.len, known.pairs);
     }
+
+pub overflow_sub-result : goal.overflow_sub-result
+overflow_sub-result c =
+    let known = c.count_before_zeros-count.ensures in
+    let some : 0 < c.count_before_zeros-count.result = omega (arith, c.if-count-eq0.false) in
+    let found = splits-end _ _ c.loop-left.coefficients.items c.loop-left.runs.items _ c.loop-left.zeros (none_left c.args.levels.now c.loop-left.left c.loop-left-test.false) c.push-2.ensures.items c.loop-left.invariant.splits in
+    let behind = zeros_behind c.args.levels.now _ c.len.result some known.within (known.last some) known.levels known.runs (c.len.ensures.value ∙ ap (λ (t : List ℤ). length t) found.0) in
+    omega (arith, behind)
+
+pub returns-clause-zeros : goal.returns-clause-zeros
+returns-clause-zeros c =
+    let known = c.count_before_zeros-count.ensures in
+    let some : 0 < c.count_before_zeros-count.result = omega (arith, c.if-count-eq0.false) in
+    let found = splits-end _ _ c.loop-left.coefficients.items c.loop-left.runs.items _ c.loop-left.zeros (none_left c.args.levels.now c.loop-left.left c.loop-left-test.false) c.push-2.ensures.items c.loop-left.invariant.splits in
+    let behind = zeros_behind c.args.levels.now _ c.len.result some known.within (known.last some) known.levels known.runs (c.len.ensures.value ∙ ap (λ (t : List ℤ). length t) found.0) in
+    omega (arith, behind, ap sum found.1)

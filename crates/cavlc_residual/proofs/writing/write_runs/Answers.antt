@@ -1,6 +1,6 @@
 use Rattle.std.proofs.Common.{arith}
 use Rattle.cavlc_residual.proofs.Pieces.{Appends-front}
-use Rattle.cavlc_residual.proofs.WriteLemmas.{runs-turn, run_fits, runs-stop, runs-end}
+use Rattle.cavlc_residual.proofs.WriteLemmas.{runs-turn, run_fits, runs-none, runs-stop, runs-end}
 use Rattle.cavlc_residual.proofs.writing.write_runs.Goals as goal
 
 pub returns-in_err-write_run : goal.returns-in_err-write_run
@@ -18,3 +18,6 @@ loop-i-preserved g c =
 
 pub returns : goal.returns
 returns g c = runs-end c.loop-i.left c.loop-i.i c.args.runs.now _ _ _ (omega (arith, c.saturating_sub-i-end.ensures)) c.loop-i.invariant.wrote
+
+pub returns-then-left-eq0 : goal.returns-then-left-eq0
+returns-then-left-eq0 g c = runs-none c.loop-i.left c.loop-i.i c.args.runs.now _ _ _ c.if-left-eq0.true c.loop-i.invariant.wrote
