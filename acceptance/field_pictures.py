@@ -1,9 +1,9 @@
 """Writes streams that no packaged encoder makes: fields and frames of one sequence, in CAVLC, with every type of macroblock
 in I, P and B slices, drawn at random.
 
-    field_pictures.py SEED PICTURES FILE
+    field_pictures.py SEED PICTURES FILE [pairs]
 
-The stream is profile High, 64 by 64 samples, with the 8x8 transform. A list of levels is empty or has one level, of 1 or
+With `pairs` the macroblocks of frames stand in pairs, each of them of frame or field macroblocks (MBAFF). The stream is profile High, 64 by 64 samples, with the 8x8 transform. A list of levels is empty or has one level, of 1 or
 -1, in its first place. Forms stand in it that encoders avoid: pattern bits without a level behind them, P_8x8 whose reference
 indices are all 0. It prints how many units, slices and macroblocks it wrote.
 """
@@ -58,7 +58,7 @@ class Bits:
         return b"\0\0\1" + bytes([header]) + EMULATION.sub(b"\0\0\3", payload)
 
 
-def sps():
+def sps(pairs):
     bits = Bits()
     for value in 100, 0, 20:
         bits.u(value, 8)
@@ -70,7 +70,7 @@ def sps():
     bits.u(0, 1)
     bits.ue(WIDTH - 1)
     bits.ue(FRAME_HEIGHT // 2 - 1)
-    bits.u(0b00100, 5)  # fields may stand, no pairs, direct_8x8_inference, no cropping, no VUI
+    bits.u(0b01100 if pairs else 0b00100, 5)  # fields may stand, direct_8x8_inference, no cropping, no VUI
     return bits.unit(0x67)
 
 
@@ -101,15 +101,26 @@ class Slice:
 
     # ---- residual
 
+    def left(self, at, y, rows):
+        """The macroblock to the left of the row y of 4x4 blocks of one at an address, of so many rows, and the row there
+        (6.4.12.1)."""
+        return at - 1 if at % WIDTH else -1, y
+
+    def above(self, at, rows):
+        """The macroblock above, and its row of 4x4 blocks that touches."""
+        return at - WIDTH, rows - 1
+
     def nc(self, at, component, block):
         """nC of a 4x4 block of the macroblock at an address (9.2.1)."""
         columns = 4 if component == 0 else 2
         x, y = block % columns, block // columns
         left, above = (at, x - 1, y), (at, x, y - 1)
         if x == 0:
-            left = (at - 1 if at % WIDTH else -1, columns - 1, y)
+            other, row = self.left(at, y, columns)
+            left = (other, columns - 1, row)
         if y == 0:
-            above = (at - WIDTH, x, columns - 1)
+            other, row = self.above(at, columns)
+            above = (other, x, row)
         near = [self.counts[m][component][j * columns + i] for m, i, j in (left, above) if m >= self.first]
         return (sum(near) + len(near) - 1) // len(near) if near else 0
 
@@ -233,36 +244,113 @@ class Slice:
             self.predicted([(number - 1, 1)])
         self.coded(at, False, t8)
 
-    def macroblock(self, at):
-        self.counts[at] = [[0] * 16, [0] * 4, [0] * 4]
+    def coded_macroblock(self, at):
         if self.kind == I or self.rng.random() < 0.15:
             self.intra(at)
-        elif self.rng.random() < 0.3:
-            self.run += 1
         else:
             self.p(at) if self.kind == P else self.b(at)
+
+    def is_skipped(self):
+        return self.kind != I and self.rng.random() < 0.25
+
+    def macroblocks(self, first, last):
+        for at in range(first, last):
+            self.counts[at] = [[0] * 16, [0] * 4, [0] * 4]
+            if self.is_skipped():
+                self.run += 1
+            else:
+                self.coded_macroblock(at)
 
     def end(self):
         if self.run:
             self.bits.ue(self.run)
 
 
+class PairSlice(Slice):
+    """The same in pairs of macroblocks, of which those of a frame's rows or those of its fields are the two. The macroblocks
+    of pair n have the addresses 2n and 2n + 1."""
+
+    def __init__(self, rng, bits, kind, refs, first, counts):
+        super().__init__(rng, bits, kind, refs, first, counts)
+        self.frame_refs = refs
+        self.flag = None  # mb_field_decoding_flag, where it stands before the next macroblock type
+        self.is_field = {}  # of each pair of the slice
+
+    def left(self, at, y, rows):
+        pair, bottom = at // 2, at % 2
+        if pair % WIDTH == 0 or pair - 1 not in self.is_field:
+            return -1, y
+        near, sample, height = 2 * (pair - 1), 4 * y, 4 * rows
+        if self.is_field[pair] == self.is_field[pair - 1]:
+            return near + bottom, y
+        if self.is_field[pair]:  # rows of a frame stand to the left: every other one
+            sample = 2 * sample + bottom
+            return near + sample // height, sample % height // 4
+        sample += height * bottom  # fields stand to the left
+        return near + sample % 2, sample // 2 // 4
+
+    def above(self, at, rows):
+        pair, bottom = at // 2, at % 2
+        if bottom and not self.is_field[pair]:
+            return at - 1, rows - 1
+        other = pair - WIDTH
+        if other not in self.is_field:
+            return -1, rows - 1
+        top_of_fields = self.is_field[pair] and self.is_field[other] and not bottom
+        return 2 * other + (0 if top_of_fields else 1), rows - 1
+
+    def type(self, number, intra=False):
+        if self.flag is None:
+            super().type(number, intra)
+            return
+        if self.kind != I:
+            self.bits.ue(self.run)
+            self.run = 0
+        self.bits.u(self.flag, 1)
+        self.flag = None
+        self.bits.ue(number + ({I: 0, P: 5, B: 23}[self.kind] if intra else 0))
+
+    def inferred(self, pair):
+        """The flag of a pair that has none (7.4.4)."""
+        if pair % WIDTH and pair - 1 in self.is_field:
+            return self.is_field[pair - 1]
+        return self.is_field.get(pair - WIDTH, 0)
+
+    def macroblocks(self, first, last):
+        for pair in range(first // 2, last // 2):
+            skipped = [self.is_skipped() for _ in range(2)]
+            self.is_field[pair] = self.inferred(pair) if all(skipped) else self.rng.getrandbits(1)
+            self.refs = [count << self.is_field[pair] for count in self.frame_refs]
+            for bottom in range(2):
+                at = 2 * pair + bottom
+                self.counts[at] = [[0] * 16, [0] * 4, [0] * 4]
+                if skipped[bottom]:
+                    self.run += 1
+                    continue
+                if not bottom or skipped[0]:
+                    self.flag = self.is_field[pair]
+                self.coded_macroblock(at)
+
+
 class Stream:
-    def __init__(self, seed):
+    def __init__(self, seed, pairs):
         self.rng = random.Random(seed)
-        self.units = [sps(), pps(self.rng)]
+        self.pairs = pairs
+        self.units = [sps(pairs), pps(self.rng)]
         self.slices = self.macroblocks = 0
 
     def picture(self, kind, idr, reference, frame_num, order, field, refs):
         """A frame, or a field where `field` is 0 for the top and 1 for the bottom one."""
         height = FRAME_HEIGHT if field is None else FRAME_HEIGHT // 2
+        in_pairs = self.pairs and field is None
+        step = 2 if in_pairs else 1
         size = WIDTH * height
-        cut = self.rng.randrange(1, size)
+        cut = step * self.rng.randrange(1, size // step)
         counts = [None] * size
         spatial, filtered = self.rng.getrandbits(1), self.rng.randrange(3)
         for first, last in ((0, cut), (cut, size)) if self.rng.getrandbits(1) else ((0, size),):
             bits = Bits()
-            bits.ue(first)
+            bits.ue(first // step)
             bits.ue(kind)
             bits.ue(0)
             bits.u(frame_num % 16, 4)
@@ -286,9 +374,8 @@ class Stream:
             if filtered != 1:
                 bits.se(0)
                 bits.se(0)
-            slice = Slice(self.rng, bits, kind, refs, first, counts)
-            for at in range(first, last):
-                slice.macroblock(at)
+            slice = (PairSlice if in_pairs else Slice)(self.rng, bits, kind, refs, first, counts)
+            slice.macroblocks(first, last)
             slice.end()
             self.units.append(bits.unit((0x60 if reference else 0) + (5 if idr else 1)))
             self.slices += 1
@@ -298,7 +385,7 @@ class Stream:
         """A picture of the stream, as a frame or as two fields, behind so many reference frames."""
         idr = number == 0
         frames = min(number, 2)
-        if self.rng.random() < 0.3:
+        if self.rng.random() < (0.8 if self.pairs else 0.3):
             self.picture(kind, idr, reference, number, 2 * order, None, [frames] * 2)
             return
         first = 2 * frames
@@ -318,7 +405,7 @@ class Stream:
 
 
 if __name__ == "__main__":
-    stream = Stream(int(sys.argv[1]))
+    stream = Stream(int(sys.argv[1]), sys.argv[4:] == ["pairs"])
     stream.write(int(sys.argv[2]))
     with open(sys.argv[3], "wb") as file:
         file.write(b"".join(stream.units))

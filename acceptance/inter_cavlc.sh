@@ -13,7 +13,7 @@
 . "$scripts/inter_streams.sh"
 
 clip "testsrc2=size=SIZE,rotate=a=t:fillcolor=gray" 352 288 12
-refused "macroblock pairs" cavlc "outside unit 4 unbuilt" "${high[@]}" --bframes 2 --tff
+refused "macroblock pairs" cabac "outside unit 4 unbuilt" "${high[@]}" --bframes 2 --tff
 refused "profile Baseline" cavlc "outside unit 0 profile" --profile baseline
 refused "samples of 10 bits" cavlc "outside unit 0 profile" --profile high10 --output-depth 10 --no-cabac
 

@@ -13,7 +13,7 @@
 . "$scripts/intra_streams.sh"
 
 clip "testsrc2=size=SIZE" 352 288 10
-refused "macroblock pairs" cavlc "outside unit 4 unbuilt" "${high[@]}" --interlaced
+refused "macroblock pairs" cabac "outside unit 4 unbuilt" "${high[@]}" --interlaced
 refused "profile Baseline" cavlc "outside unit 0 profile" --profile baseline --keyint 1
 refused "samples of 10 bits" cavlc "outside unit 0 profile" --profile high10 --output-depth 10 --no-cabac --keyint 1
 

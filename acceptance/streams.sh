@@ -14,7 +14,7 @@ scripts=$(cd "$(dirname "${BASH_SOURCE[0]}")" && pwd)
 . "$scripts/../bench/program.sh"
 
 in=$room/in.264 out=$room/out.264
-table=flat untimed=
+table=flat init= range= untimed=
 tried=0 failed=0
 
 # ---- streams
@@ -51,10 +51,10 @@ counted() {
     echo "units $(starts '\x00\x00\x01' "$in") slices $(($1 * frames)) macroblocks $((macroblocks * frames))"
 }
 
-# fields SEED: has field_pictures.py write the stream, of 14 frames
+# fields SEED [pairs]: has field_pictures.py write the stream, of 14 frames
 fields() {
     local units slices
-    read -r units slices macroblocks < <(python3 "$scripts/field_pictures.py" "$1" 8 "$in")
+    read -r units slices macroblocks < <(python3 "$scripts/field_pictures.py" "$1" 8 "$in" "${@:2}")
     counts="units $units slices $slices macroblocks $macroblocks" frames=14 untimed=yes
 }
 
@@ -68,10 +68,13 @@ shown() {
 
 # ---- runs
 
-# recode LAYER FILE OTHER: runs the program from one file to the other, and keeps how it ended
+# recode LAYER FILE OTHER: runs the program from one file to the other, with cabac_init_idc $init and the periods $range, where
+# these are named, and keeps how it ended
 recode() {
-    local status=0
-    "$program" recode --to "$1" --table "$table" <"$2" >"$3" 2>"$room/report" || status=$?
+    local status=0 words=(--to "$1" --table "$table")
+    [ -z "$init" ] || words+=(--init "$init")
+    [ -z "$range" ] || words+=(--first ${range% *} --last ${range#* })
+    "$program" recode "${words[@]}" <"$2" >"$3" 2>"$room/report" || status=$?
     ended="status $status, $(cat "$room/report")"
 }
 
