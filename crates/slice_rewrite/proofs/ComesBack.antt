@@ -1,6 +1,6 @@
 -- What is written for an item is read as that item in the wanted layer.
 use Rattle.std.proofs.Common.{◌≡◌, ◌≢◌, ℕ, ◌-◌, ◌%◌, ◌<◌, List, [], ◌∷◌, ◌++◌, length, Bool, true, false, cond, eqb, Some, None, option_map, refl, sym, ap, subst, ◌∙◌, arith, length-append, append_assoc, replicate}
-use Rattle.std.specs.Prelude.{if◌then◌else◌}
+use Rattle.std.specs.Prelude.{if◌then◌else◌, ◌&&◌, ◌||◌}
 use Rattle.std.proofs.lemmas.Bool.{eqb-true}
 use Rattle.bit_texts.specs.Bits.{bits_of, bytes_of}
 use Rattle.bit_texts.proofs.Bytes.{bits_of-bytes_of}
@@ -27,7 +27,7 @@ use Rattle.param_sets.proofs.SpsTexts.{read_again as sps_again}
 use Rattle.param_sets.proofs.Trailing.{whole_payload}
 use Rattle.param_sets.proofs.TrailingWritten.{payload_ends}
 use Rattle.slice_header.specs.HeaderCodes.{HeaderFits, IsAllowed, Names, active_in, header_in, header_text, unconstrained}
-use Rattle.slice_header.specs.Shape.{shape_of}
+use Rattle.slice_header.specs.Shape.{is_mbaff, shape_of}
 use Rattle.header_parts.specs.ActiveSets.{Active}
 use Rattle.slice_header.specs.SliceHeader.{slice_header}
 use Rattle.header_parts.specs.declared.header.Header.{Header}
@@ -175,7 +175,12 @@ behind_text text rest = omega (arith, length-append text rest)
 
 -- a slice that isn't refused as not built for a layer isn't so when it is in it
 built-back : (to : Layer) (n idc : ℕ) (active : Active) (h : Header) → is_unbuilt to active h ≡ false → is_unbuilt to (active_in to n (unconstrained active)) (header_in to n idc h) ≡ false
-built-back to n idc active h e = e
+built-back to n idc active h e = by (is_mbaff active h) (mode_flag_of to) active.pps.entropy_coding_mode_flag e
+  where
+    by : (mbaff wanted own : Bool) → (mbaff && (wanted || own)) ≡ false → (mbaff && (wanted || wanted)) ≡ false
+    by false wanted own k = refl
+    by true false own k = refl
+    by true true own k = absurd (let both : true ≡ false = k in cc)
 
 -- the layer that the flag of a layer names
 layer_named : (to : Layer) → (if mode_flag_of to then Cabac else Cavlc) ≡ to

@@ -5,7 +5,6 @@ use Rattle.cabac_syntax.specs.SliceData.{first_states}
 use Rattle.cabac_syntax.proofs.Decided.{decided as cabac_decided}
 use Rattle.cabac_syntax.proofs.DataLaws.{normal_data, one_normal, data_fill, data_stop}
 use Rattle.cabac_syntax.proofs.OneList.{one_list_of}
-use Rattle.cavlc_syntax.specs.SliceText as cavlc
 use Rattle.cavlc_syntax.proofs.Decided.{decided}
 use Rattle.cavlc_syntax.proofs.Texts as texts
 use Rattle.h264_types.specs.SliceShape.{IsSliceShape}
@@ -21,9 +20,6 @@ use Rattle.slice_rewrite.specs.Layers.{HasDataIn, IsDataIn, IsNormalDataIn, NoDa
 pub record IsBuiltShapeIn (layer : Layer) (shape : SliceShape) : Type 0 where
   pub is_shape : IsSliceShape shape
   pub built : IsBuiltIn layer shape
-
-pub cavlc_shape : (shape : SliceShape) → IsBuiltShapeIn Cavlc shape → cavlc.IsBuiltShape shape
-cavlc_shape shape is = record { is_shape = is.is_shape; built = is.built }
 
 pub cabac_shape : (shape : SliceShape) → IsBuiltShapeIn Cabac shape → cabac.IsBuiltShape shape
 cabac_shape shape is = record { is_shape = is.is_shape; built = is.built }
@@ -68,5 +64,5 @@ abbrev pub DecidedIn : Layer → InitTable → SliceShape → ℕ → List Bool 
 DecidedIn layer init shape pos bits = ((mbs : List Mb) × HasDataIn layer shape mbs × IsDataIn layer init shape pos mbs bits) ⊎ NoDataIn layer init shape pos bits
 
 pub decided_in : (layer : Layer) (init : InitTable) (shape : SliceShape) (pos : ℕ) (bits : List Bool) → IsBuiltShapeIn layer shape → DecidedIn layer init shape pos bits
-decided_in Cavlc init shape pos bits is = decided shape pos bits (cavlc_shape shape is)
+decided_in Cavlc init shape pos bits is = decided shape pos bits is.is_shape
 decided_in Cabac init shape pos bits is = cabac_decided (first_states init shape) shape pos bits (cabac_shape shape is)

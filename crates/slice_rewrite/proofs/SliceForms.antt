@@ -1,5 +1,5 @@
 -- What is written for a slice, and why nothing is.
-use Rattle.std.proofs.Common.{◌≡◌, inl, inr, ℕ, zero, suc, ◌+◌, ◌-◌, ◌%◌, ◌≤◌, ◌<◌, Bool, true, List, [], ◌∷◌, ◌++◌, length, get_or, map, take, drop, Option, Some, None, refl, sym, ap, subst, ◌∙◌, arith, length-append}
+use Rattle.std.proofs.Common.{false, ◌≡◌, inl, inr, ℕ, zero, suc, ◌+◌, ◌-◌, ◌%◌, ◌≤◌, ◌<◌, Bool, true, List, [], ◌∷◌, ◌++◌, length, get_or, map, take, drop, Option, Some, None, refl, sym, ap, subst, ◌∙◌, arith, length-append}
 use Rattle.std.specs.Prelude.{All, Result, Ok, Err, IfOk, IfErr}
 use Rattle.std.proofs.lemmas.List.{map-append, take_more, take-append-drop}
 use Rattle.bit_texts.specs.Bits.{bits_of}
@@ -44,7 +44,7 @@ use Rattle.slice_rewrite.specs.declared.opening.OpenSlice.{OpenSlice}
 use Rattle.slice_rewrite.specs.Faults.{fault_of_header, fault_of_data}
 use Rattle.slice_rewrite.specs.SliceForms.{sets_in, Ends, IsSliceForm, IsSliceRefusal, coded, IsSliceRead, IsNotRead, IsNotOpened, IsOpened, IsUnderSets, IsSliceWritten, IsNotWritten, IsCopy, IsCopyIn, IsNoCopy, IsNoCopyIn, IsNoDataRead, IsDataWritten, IsNoDataWritten, IsOtherColumn}
 use Rattle.slice_rewrite.proofs.Normal.{front_written}
-use Rattle.slice_rewrite.proofs.Slices.{built_layer, names-once, header-once, header-found, built_under, written_built, written_column}
+use Rattle.slice_rewrite.proofs.Slices.{names-once, header-once, header-found, built_under, wanted_built, written_built, written_column}
 use Rattle.slice_rewrite.proofs.Stops.{none_emptied, stop_of_both}
 
 pub subst2 : {X Y : Type 0} (P : X → Y → Type 0) {x u : X} {y v : Y} → x ≡ u → y ≡ v → P x y → P u v
@@ -183,7 +183,7 @@ pub shape_of_both : (shape other : SliceShape) → IsOtherColumn shape other →
 shape_of_both shape other o is = subst IsSliceShape (ap (λ (s : SliceShape). record s { column = other.column }) o.same) (column_shape shape other.column o.column is)
 
 built_of_both : (to : Layer) (shape other : SliceShape) → IsOtherColumn shape other → IsBuiltIn to shape → IsBuiltIn to other
-built_of_both Cavlc shape other o built = record { mbaff = sym (ap (λ (s : SliceShape). s.mbaff) o.same) ∙ built.mbaff }
+built_of_both Cavlc shape other o built = tt
 built_of_both Cabac shape other o built = record { mbaff = sym (ap (λ (s : SliceShape). s.mbaff) o.same) ∙ built.mbaff }
 
 -- no stop rests on the column
@@ -258,21 +258,28 @@ may_write to number idc sets active h mbs shape few u is =
     let o = written_other to number idc active h shape few is in
     record { built = built_of_both to (shape_of active h) shape o u.built; slice = slices_of_both (shape_of active h) shape mbs o.same o.column u.are }
 
--- a slice that was read may be written in either layer, with other macroblocks of its shape too
-pub under_read : (to : Layer) (init : InitTable) (sets : SetMaps) (header : ℕ) (bits : List Bool) (h : Header) (mbs others : List Mb) → IsSliceRead init sets header bits h mbs
-    → ((active : Active) → Names sets h.pic_parameter_set_id active → IsSlice (shape_of active h) others) → (active : Active) × IsUnderSets to sets active h others
-under_read to init sets header bits h mbs others r are =
+-- a slice that was read names sets that its header fits
+pub read_under : (init : InitTable) (sets : SetMaps) (header : ℕ) (bits : List Bool) (h : Header) (mbs : List Mb) → IsSliceRead init sets header bits h mbs → (active : Active) × Names sets h.pic_parameter_set_id active × HeaderFits active h
+read_under init sets header bits h mbs r =
     let is = r.1 in
     let f = header-found sets header bits is.rest h is.header_is in
-    let same = names-once sets h.pic_parameter_set_id f.active r.0 f.names is.names in
     let F : Active → Type 0 = λ a. HeaderFits a h in
-    (r.0, record { names = is.names; fits = subst F same f.fits; built = built_layer to (shape_of r.0 h) is.built; are = are r.0 is.names })
+    (r.0, is.names, subst F (names-once sets h.pic_parameter_set_id f.active r.0 f.names is.names) f.fits)
 
-pub may_be_written : (to : Layer) (init : InitTable) (sets : SetMaps) (header : ℕ) (bits : List Bool) (h : Header) (mbs : List Mb) → IsSliceRead init sets header bits h mbs → (active : Active) × IsUnderSets to sets active h mbs
-may_be_written to init sets header bits h mbs r =
+-- where it is built for a layer it may be written in it, with other macroblocks of its shape too
+pub under_read : (to : Layer) (init : InitTable) (sets : SetMaps) (header : ℕ) (bits : List Bool) (h : Header) (mbs others : List Mb) → IsSliceRead init sets header bits h mbs
+    → ((active : Active) → Names sets h.pic_parameter_set_id active → is_unbuilt to active h ≡ false) → ((active : Active) → Names sets h.pic_parameter_set_id active → IsSlice (shape_of active h) others)
+    → (active : Active) × IsUnderSets to sets active h others
+under_read to init sets header bits h mbs others r may are =
+    let u = read_under init sets header bits h mbs r in
+    (u.0, record { names = u.1; fits = u.2; built = wanted_built to u.0 h (may u.0 u.1); are = are u.0 u.1 })
+
+pub may_be_written : (to : Layer) (init : InitTable) (sets : SetMaps) (header : ℕ) (bits : List Bool) (h : Header) (mbs : List Mb) → IsSliceRead init sets header bits h mbs
+    → ((active : Active) → Names sets h.pic_parameter_set_id active → is_unbuilt to active h ≡ false) → (active : Active) × IsUnderSets to sets active h mbs
+may_be_written to init sets header bits h mbs r may =
     let is = r.1 in
     let A : Active → Type 0 = λ a. IsSlice (shape_of a h) mbs in
-    under_read to init sets header bits h mbs mbs r (λ active names. subst A (names-once sets h.pic_parameter_set_id r.0 active is.names names) (slice_in_layer (layer_of r.0) (shape_of r.0 h) mbs is.list))
+    under_read to init sets header bits h mbs mbs r may (λ active names. subst A (names-once sets h.pic_parameter_set_id r.0 active is.names names) (slice_in_layer (layer_of r.0) (shape_of r.0 h) mbs is.list))
 
 -- ## Reading and writing
 

@@ -1,6 +1,6 @@
 -- The payload of a slice unit is one slice, or is refused for one reason.
 use Rattle.std.proofs.Common.{◌≡◌, ◌⊎◌, inl, inr, ℕ, ◌+◌, ◌-◌, ◌<◌, ◌≤◌, List, length, Bool, true, false, Some, refl, sym, ap, subst, ◌∙◌, arith}
-use Rattle.std.specs.Prelude.{◌&&◌, not, if◌then◌else◌}
+use Rattle.std.specs.Prelude.{◌&&◌, ◌||◌, not, if◌then◌else◌}
 use Rattle.bit_texts.proofs.Inverting.{some_is}
 use Rattle.exp_golomb.specs.Syntax.{Syntax, Outcome, Found, Refused, NoText, Spells, outcome_of}
 use Rattle.exp_golomb.proofs.Syntaxes.{one_outcome, spelled}
@@ -21,7 +21,7 @@ use Rattle.param_sets.specs.declared.sps.Sps.{Sps}
 use Rattle.slice_header.specs.HeaderCodes.{HeaderFits, IsAllowed, Names, active_in, header_in, unconstrained}
 use Rattle.header_parts.specs.Refusal.{Refusal}
 use Rattle.header_parts.specs.SliceTypes.{is_i}
-use Rattle.slice_header.specs.Shape.{shape_of}
+use Rattle.slice_header.specs.Shape.{is_mbaff, shape_of}
 use Rattle.header_parts.specs.ActiveSets.{Active}
 use Rattle.slice_header.specs.SliceHeader.{slice_header}
 use Rattle.header_parts.specs.declared.header.Header.{Header}
@@ -152,17 +152,29 @@ slice-nal to init sets header bits s is = (written_one sets header bits is.rest 
 
 -- ## Slices that are built
 
-pub built_layer : (layer : Layer) (shape : SliceShape) → shape.mbaff ≡ false → IsBuiltIn layer shape
-built_layer Cavlc shape mbaff = record { mbaff = mbaff }
-built_layer Cabac shape mbaff = record { mbaff = mbaff }
+-- of a shape, where these say whether it is of an MBAFF frame, whether CABAC is wanted, and whether the slice is in CABAC
+built_read : (mbaff wanted own : Bool) (shape : SliceShape) → shape.mbaff ≡ mbaff → (mbaff && (wanted || own)) ≡ false → IsBuiltIn (if own then Cabac else Cavlc) shape
+built_read mbaff wanted false shape is e = tt
+built_read false wanted true shape is e = record { mbaff = is }
+built_read true false true shape is e = absurd (let both : true ≡ false = e in cc)
+built_read true true true shape is e = absurd (let both : true ≡ false = e in cc)
+
+built_wanted : (to : Layer) (mbaff own : Bool) (shape : SliceShape) → shape.mbaff ≡ mbaff → (mbaff && (mode_flag_of to || own)) ≡ false → IsBuiltIn to shape
+built_wanted Cavlc mbaff own shape is e = tt
+built_wanted Cabac false own shape is e = record { mbaff = is }
+built_wanted Cabac true own shape is e = absurd (let both : true ≡ false = e in cc)
 
 -- the data of a slice that isn't refused so are read and written
 pub not_unbuilt : (to : Layer) (active : Active) (h : Header) → is_unbuilt to active h ≡ false → IsBuiltIn (layer_of active) (shape_of active h)
-not_unbuilt to active h e = built_layer (layer_of active) (shape_of active h) e
+not_unbuilt to active h e = built_read (is_mbaff active h) (mode_flag_of to) active.pps.entropy_coding_mode_flag (shape_of active h) refl e
 
--- and so are those of the shape in which it is written, in the wanted layer
+-- they may be written in the wanted layer
+pub wanted_built : (to : Layer) (active : Active) (h : Header) → is_unbuilt to active h ≡ false → IsBuiltIn to (shape_of active h)
+wanted_built to active h e = built_wanted to (is_mbaff active h) active.pps.entropy_coding_mode_flag (shape_of active h) refl e
+
+-- and so may those of the shape in which it is written
 pub written_built : (to : Layer) (number idc : ℕ) (active : Active) (h : Header) → is_unbuilt to active h ≡ false → IsBuiltIn to (shape_of (active_in to number (unconstrained active)) (header_in to number idc h))
-written_built to number idc active h e = built_layer to (shape_of (active_in to number (unconstrained active)) (header_in to number idc h)) e
+written_built to number idc active h e = built_wanted to (is_mbaff active h) active.pps.entropy_coding_mode_flag (shape_of (active_in to number (unconstrained active)) (header_in to number idc h)) refl e
 
 -- a column of I slices, or of a cabac_init_idc that stands
 small_column : (i stands : Bool) (idc : ℕ) → idc < 3 → (if i then 0 else (if stands then idc else 0) + 1) ≤ 3

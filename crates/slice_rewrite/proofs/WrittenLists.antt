@@ -24,7 +24,6 @@ written_slice to shape other mbs is column goes_on = slices_of_both shape other 
 -- of macroblocks that make a slice, whatever they were read from
 pub written_data : (to : Layer) (shape other : SliceShape) (mbs : List Mb) → IsSlice shape mbs → IsOtherColumn shape other → IsBuiltIn to other → least_stop to shape mbs ≡ None → HasDataIn to other (map (written_mb to) mbs)
 written_data Cavlc shape other mbs is column built goes_on = record {
-  built = built;
   slice = written_slice Cavlc shape other mbs is column goes_on;
   within = All-map (IsNotBeyond other) (written_mb Cavlc) mbs (λ k d below.
       let mb = get_or mbs k d in

@@ -7,6 +7,7 @@ use Rattle.h264_types.specs.declared.layer.Layer.{Layer}
 use Rattle.h264_types.specs.declared.macroblock.Mb.{Mb}
 use Rattle.init_table.specs.declared.table.InitTable.{InitTable}
 use Rattle.param_sets.specs.PictureParameterSet.{PpsText}
+use Rattle.param_sets.specs.PpsCodes.{mode_flag_of}
 use Rattle.param_sets.specs.SequenceParameterSet.{SpsText}
 use Rattle.param_sets.specs.Sets.{SetMaps, no_sets, sps_put, pps_put}
 use Rattle.param_sets.specs.declared.pps.Pps.{Pps}
@@ -78,9 +79,10 @@ sets_behind (i ∷ before) = put i (sets_behind before)
 
 -- ## Slices
 
--- Slices of MBAFF frames aren't recoded yet, whatever layer is wanted: they are refused behind their headers.
+-- Slices of MBAFF frames are recoded from CAVLC to CAVLC alone yet: where one is in CABAC, or CABAC is wanted, it is refused
+-- behind its header.
 abbrev pub is_unbuilt : Layer → Active → Header → Bool
-is_unbuilt to active h = is_mbaff active h
+is_unbuilt to active h = is_mbaff active h && (mode_flag_of to || active.pps.entropy_coding_mode_flag)
 
 -- these bits, the payload of a unit with this header byte, are those of the slice under the sets that stand (7.3.2.8), with
 -- this table of initial pairs where it is in CABAC

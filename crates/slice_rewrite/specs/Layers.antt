@@ -33,7 +33,7 @@ IsNormalDataIn Cabac init = cabac.IsNormalData init
 abbrev pub NoDataIn : Layer → InitTable → SliceShape → ℕ → List Bool → Type 0
 NoDataIn layer init = NoList (HasDataIn layer) (IsDataIn layer init)
 
--- the shapes of slices whose data are read and written
+-- the shapes of slices whose data are read and written: in CABAC not yet those of MBAFF frames
 abbrev pub IsBuiltIn : Layer → SliceShape → Type 0
-IsBuiltIn Cavlc = cavlc.IsBuilt
-IsBuiltIn Cabac = cabac.IsBuilt
+IsBuiltIn Cavlc shape = Unit {0}
+IsBuiltIn Cabac shape = cabac.IsBuilt shape

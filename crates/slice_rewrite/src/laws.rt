@@ -1,5 +1,5 @@
 //! Laws of slices and whole streams: functions that do nothing, whose clauses are the laws.
-ghost use Rattle.std.specs.Prelude.{◌≡◌, ◌<◌, ◌↔◌, List, Bool, length, map, ℕ, pos, true, Option, Some, None, option_map, slice_get};
+ghost use Rattle.std.specs.Prelude.{false, ◌≡◌, ◌<◌, ◌↔◌, List, Bool, length, map, ℕ, pos, true, Option, Some, None, option_map, slice_get};
 ghost use Rattle.h264_types.specs.declared.fault.Why.{Why};
 ghost use Rattle.h264_types.specs.declared.fault.Stopped.{Stopped};
 ghost use Rattle.h264_types.specs.declared.macroblock.Mb.{Mb};
@@ -18,7 +18,7 @@ ghost use Rattle.slice_rewrite.specs.SliceForms.{IsSliceRead, IsUnderSets};
 ghost use Rattle.slice_rewrite.specs.Options.{Options};
 ghost use Rattle.h264_types.specs.declared.layer.Layer.{Layer};
 ghost use Rattle.param_sets.specs.Sets.{SetMaps};
-ghost use Rattle.slice_rewrite.specs.Items.{Slice, Item, IsItem};
+ghost use Rattle.slice_rewrite.specs.Items.{Slice, Item, IsItem, is_unbuilt};
 ghost use Rattle.slice_rewrite.specs.Verdict.{Judges, Recodes, Refuses};
 ghost use Rattle.slice_rewrite.specs.View.{Reads, CanBeWritten, SaysTheSame, with_qp};
 ghost use Rattle.slice_rewrite.specs.Written.{slice_in, IsOutput};
@@ -93,11 +93,13 @@ pub fn levels_that_are_read_are_written()
     ensures { (shape : SliceShape) (mbs : List Mb) → HasText shape mbs → least_stop Layer.Cavlc shape mbs ≡ least_stop Layer.Cabac shape mbs }
 {}
 
-/// A slice that was read may be written in either layer, and so may one with the same header and other macroblocks of a slice of
-/// its shape.
+/// A slice that was read may be written in each layer that it is built for, and so may one with the same header and other
+/// macroblocks of a slice of its shape.
 pub fn slices_that_are_read_may_be_written()
-    ensures same { (to : Layer) (init : InitTable) (sets : SetMaps) (header : ℕ) (bits : List Bool) (h : Header) (mbs : List Mb) → IsSliceRead init sets header bits h mbs → (active : Active) × IsUnderSets to sets active h mbs }
+    ensures same { (to : Layer) (init : InitTable) (sets : SetMaps) (header : ℕ) (bits : List Bool) (h : Header) (mbs : List Mb) → IsSliceRead init sets header bits h mbs →
+        ((active : Active) → Names sets h.pic_parameter_set_id active → is_unbuilt to active h ≡ false) → (active : Active) × IsUnderSets to sets active h mbs }
     ensures others { (to : Layer) (init : InitTable) (sets : SetMaps) (header : ℕ) (bits : List Bool) (h : Header) (mbs others : List Mb) → IsSliceRead init sets header bits h mbs →
+        ((active : Active) → Names sets h.pic_parameter_set_id active → is_unbuilt to active h ≡ false) →
         ((active : Active) → Names sets h.pic_parameter_set_id active → IsSlice (shape_of active h) others) → (active : Active) × IsUnderSets to sets active h others }
 {}
 

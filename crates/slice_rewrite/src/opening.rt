@@ -1,6 +1,10 @@
 // A slice whose header was read, before its macroblocks are.
 ghost use Rattle.std.specs.Prelude.{◌≡◌, ◌≤◌, ℕ, List, Bool, IfOk, IfErr};
 ghost use Rattle.bit_texts.specs.Bits.{bits_of};
+ghost use Rattle.header_parts.specs.ActiveSets.{active_view};
+ghost use Rattle.header_parts.specs.declared.header.Header.{Header};
+ghost use Rattle.slice_header.specs.Shape.{shape_of};
+ghost use Rattle.slice_rewrite.specs.Items.{is_unbuilt};
 ghost use Rattle.slice_rewrite.specs.Layers.{layer_of};
 ghost use Rattle.slice_rewrite.specs.SliceForms.{IsOpened, IsNotOpened, sets_in};
 
@@ -59,7 +63,7 @@ pub fn open_slice<'a>(
     let mut bits = SliceBits::new(payload);
     let (header, active) = read_header_with_sets(alloc, sets, header, &mut bits)?;
     let shape = shape_under(&active, &header);
-    if shape.mbaff {
+    if is_unbuilt(to, &active, &shape) {
         return Err(RewriteFault::Outside(Why::Unbuilt));
     }
     Ok(OpenSlice {
@@ -68,4 +72,11 @@ pub fn open_slice<'a>(
         shape,
         bits,
     })
+}
+
+// Whether a slice of this shape is refused as not built: one of an MBAFF frame, where it is in CABAC or CABAC is wanted.
+fn is_unbuilt(to: Layer, active: &ActiveSets<'_>, shape: &SliceShape) -> bool
+    ensures { (h : Header) → shape.now ≡ shape_of (active_view active.now) h → result ≡ is_unbuilt to (active_view active.now) h }
+{
+    shape.mbaff && (matches!(to, Layer::Cabac) || active.pps.entropy_coding_mode_flag)
 }

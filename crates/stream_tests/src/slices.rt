@@ -70,7 +70,8 @@ fn sets_of(alloc: Global, unit: &Unit) -> Result<Sets, Fail> {
     Ok(sets)
 }
 
-// What is written in a layer for a slice with this macroblock in place of its own, if it is one of the slice's.
+// What is written in a layer for a slice with this macroblock in place of its own, if it is one of the slice's, which isn't of an
+// MBAFF frame.
 fn written_with(
     alloc: Global,
     sets: &Sets,
@@ -81,7 +82,8 @@ fn written_with(
 ) -> Result<Option<Vec<u8>>, RewriteFault> {
     let mut slice = read_slice(alloc, sets, init, unit.header, unit.payload)?;
     slice.mbs = [*mb].to_vec(alloc)?;
-    if !valid(&shape(sets, &slice.header), slice.mbs.as_slice()) {
+    let shape = shape(sets, &slice.header);
+    if shape.mbaff || !valid(&shape, slice.mbs.as_slice()) {
         return Ok(None);
     }
     let how = How {

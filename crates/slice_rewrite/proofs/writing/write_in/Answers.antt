@@ -1,11 +1,11 @@
 -- The data are written in the layer that is named.
-use Rattle.h264_types.specs.declared.layer.Layer.TheVariants.{Cavlc, Cabac}
-use Rattle.slice_rewrite.proofs.Layers.{cavlc_shape, cabac_shape}
+use Rattle.h264_types.specs.declared.layer.Layer.TheVariants.{Cabac}
+use Rattle.slice_rewrite.proofs.Layers.{cabac_shape}
 use Rattle.slice_rewrite.proofs.SliceForms.{built_as}
 use Rattle.slice_rewrite.proofs.writing.write_in.Goals as goal
 
 pub start-requires : goal.start-requires
-start-requires c = cavlc_shape c.args.shape (built_as c.args.to Cavlc c.args.shape c.in-Cavlc.is c.requires.shape c.requires.built)
+start-requires c = c.requires.shape
 
 pub start-requires-in-Cabac : goal.start-requires-in-Cabac
 start-requires-in-Cabac c = cabac_shape c.args.shape (built_as c.args.to Cabac c.args.shape c.in-Cabac.is c.requires.shape c.requires.built)

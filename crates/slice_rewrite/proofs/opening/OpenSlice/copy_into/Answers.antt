@@ -2,10 +2,10 @@
 use Rattle.std.proofs.Common.{length, sym, ◌∙◌}
 use Rattle.std.specs.Prelude.{IfOk, IfErr}
 use Rattle.h264_types.specs.declared.layer.Layer.{Layer}
-use Rattle.h264_types.specs.declared.layer.Layer.TheVariants.{Cavlc, Cabac}
+use Rattle.h264_types.specs.declared.layer.Layer.TheVariants.{Cabac}
 use Rattle.slice_rewrite.specs.Layers.{layer_of}
 use Rattle.slice_rewrite.specs.SliceForms.{IsCopyIn, IsNoCopyIn, sets_in}
-use Rattle.slice_rewrite.proofs.Layers.{cavlc_shape, cabac_shape}
+use Rattle.slice_rewrite.proofs.Layers.{cabac_shape}
 use Rattle.slice_rewrite.proofs.SliceForms.{built_as, shape_built, subst2}
 use Rattle.exp_golomb.specs.Bitstream.{Bitstream}
 use Rattle.slice_rewrite.proofs.opening.OpenSlice.copy_into.Goals as goal
@@ -14,8 +14,7 @@ pub start-requires : goal.start-requires
 start-requires g c =
     let self = c.args.self.now in
     let o = c.requires.opened in
-    let is = shape_built o.0 o.1 o.2 o.3 self o.4 in
-    cavlc_shape self.shape (built_as (layer_of (sets_in self)) Cavlc self.shape (sym c.layer.ensures ∙ c.in-Cavlc.is) is.is_shape is.built)
+    (shape_built o.0 o.1 o.2 o.3 self o.4).is_shape
 
 pub start-requires-in-Cabac : goal.start-requires-in-Cabac
 start-requires-in-Cabac g c =
