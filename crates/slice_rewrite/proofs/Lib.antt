@@ -2,6 +2,7 @@ mod Layers
 pub mod Normal
 pub mod Stops
 pub mod WrittenLists
+pub mod WrittenSets
 pub mod Slices
 pub mod Reasons
 pub mod Judging

@@ -1,5 +1,5 @@
 -- The form of a slice under the number of a pick.
-use Rattle.std.proofs.Common.{◌≡◌, ℕ, zero, suc, ◌<◌, ◌%◌, Bool, true, false, List, [], ◌∷◌, length, Some, refl, sym, ap, subst, ◌∙◌, arith}
+use Rattle.std.proofs.Common.{◌≡◌, ℕ, zero, suc, ◌<◌, ◌%◌, Bool, true, false, List, [], ◌∷◌, length, Option, Some, refl, sym, ap, subst, ◌∙◌, arith}
 use Rattle.std.specs.Prelude.{slice_get}
 use Rattle.bit_texts.specs.Bits.{bits_of, bytes_of}
 use Rattle.exp_golomb.specs.EmulationPrevention.{HasEscape, escaped, zeros_at_end}
@@ -12,6 +12,7 @@ use Rattle.header_parts.specs.declared.header.Header.{Header}
 use Rattle.slice_header.specs.HeaderCodes.{Names}
 use Rattle.slice_rewrite.specs.Items.{Slice, IsSliceOf}
 use Rattle.slice_rewrite.specs.Options.{whole_run}
+use Rattle.slice_rewrite.specs.Periods.{number_in}
 use Rattle.slice_rewrite.specs.Picks.{AreLengths, PicksBy, Picks, IsPickedForm, IsChosen, stands_in}
 use Rattle.slice_rewrite.specs.SliceForms.{IsOpened, IsSliceForm, coded, sets_in}
 use Rattle.slice_rewrite.specs.Written.{slice_under, IsSliceBits, IsSliceUnit}
@@ -111,10 +112,11 @@ pub stands_opened : (to : Layer) (init : InitTable) (sets : SetMaps) (header : �
     → IsSliceOf to init sets header bits s → stands_in to s ≡ b
 stands_opened to init sets header bits o b s r says is = ap (stands_in to) (slice_is to init sets header bits o s r is) ∙ sym (says s.mbs)
 
--- under the number of the set that it names, the pick goes on as for the slice as it stands in the layer
-pub picks_under_own : {P : Type 0} (tried : P → Tries) (step : P → List ℕ → ℕ → P → Type 0) (to : Layer) (init : InitTable) (sets : SetMaps) (header : ℕ) (bits : List Bool) (s : OpenSlice) (payload : List ℕ) (macroblocks : ℕ) (old new : P) → IsOpened to sets header bits s
-    → (f : IsPickedForm tried step to init s.header.pic_parameter_set_id sets header bits old payload macroblocks new) → Picks tried step to init f.form.slice.header.pic_parameter_set_id f.form.slice f.form.idc old new
-picks_under_own tried step to init sets header bits s payload macroblocks old new r f =
+-- under the number by which slices in range name its set, the pick goes on as for a slice in range
+pub picks_under_own : {P : Type 0} (tried : P → Tries) (step : P → List ℕ → ℕ → P → Type 0) (to : Layer) (range : Option (ℕ × ℕ)) (init : InitTable) (sets : SetMaps) (header : ℕ) (bits : List Bool) (s : OpenSlice) (payload : List ℕ) (macroblocks : ℕ) (old new : P)
+    → IsOpened to sets header bits s → (f : IsPickedForm tried step to init (number_in range s.header.pic_parameter_set_id) sets header bits old payload macroblocks new)
+    → Picks tried step to init (number_in range f.form.slice.header.pic_parameter_set_id) f.form.slice f.form.idc old new
+picks_under_own tried step to range init sets header bits s payload macroblocks old new r f =
     let same = (header-once sets header bits s.header f.form.slice.header s.bits.left f.form.read.rest r.text f.form.read.header_is).0 in
-    let N : Header → Type 0 = λ h. Picks tried step to init h.pic_parameter_set_id f.form.slice f.form.idc old new in
+    let N : Header → Type 0 = λ h. Picks tried step to init (number_in range h.pic_parameter_set_id) f.form.slice f.form.idc old new in
     subst N same f.picks

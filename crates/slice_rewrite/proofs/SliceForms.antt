@@ -38,11 +38,12 @@ use Rattle.slice_rewrite.specs.declared.fault.RewriteFault.TheVariants.{Outside,
 use Rattle.slice_rewrite.specs.Items.{is_unbuilt, IsSliceOf}
 use Rattle.slice_rewrite.specs.Stops.{least_stop, mb_stop, stop_from, stop_or}
 use Rattle.slice_rewrite.specs.Verdict.{IsNoData, IsNoSlice}
-use Rattle.slice_rewrite.specs.Written.{slice_under, slice_in, IsSliceBits}
+use Rattle.slice_rewrite.specs.Periods.{number_in}
+use Rattle.slice_rewrite.specs.Written.{slice_under, IsSliceBits}
 use Rattle.slice_data.specs.WrittenForm.{written_mb}
 use Rattle.slice_rewrite.specs.declared.opening.OpenSlice.{OpenSlice}
 use Rattle.slice_rewrite.specs.Faults.{fault_of_header, fault_of_data}
-use Rattle.slice_rewrite.specs.SliceForms.{sets_in, Ends, IsSliceForm, IsSliceRefusal, coded, IsSliceRead, IsNotRead, IsNotOpened, IsOpened, IsUnderSets, IsSliceWritten, IsNotWritten, IsCopy, IsCopyIn, IsNoCopy, IsNoCopyIn, IsNoDataRead, IsDataWritten, IsNoDataWritten, IsOtherColumn}
+use Rattle.slice_rewrite.specs.SliceForms.{sets_in, Ends, IsSliceForm, IsSliceRefusal, coded, IsSliceRead, IsCounted, AreDataCounted, IsNotRead, IsNotOpened, IsOpened, IsUnderSets, IsSliceWritten, IsNotWritten, IsCopy, IsCopyIn, IsNoCopy, IsNoCopyIn, IsNoDataRead, IsDataWritten, IsNoDataWritten, IsOtherColumn}
 use Rattle.slice_rewrite.proofs.Normal.{front_written}
 use Rattle.slice_rewrite.proofs.Slices.{names-once, header-once, header-found, built_under, wanted_built, written_built, written_column}
 use Rattle.slice_rewrite.proofs.Stops.{none_emptied, stop_of_both}
@@ -127,6 +128,17 @@ pub not_read : (to : Layer) (init : InitTable) (sets : SetMaps) (header : ℕ) (
 not_read to init sets header bits s (Outside why) r none = data_refused to init sets header bits s why r none.0 none.1
 not_read to init sets header bits s (Stop case k) r none = none
 not_read to init sets header bits s Memory r none = tt
+
+-- the macroblocks of a slice that was opened were counted
+pub counted : (to : Layer) (init : InitTable) (sets : SetMaps) (header : ℕ) (bits : List Bool) (s : OpenSlice) (result : Result ℕ RewriteFault) → IsOpened to sets header bits s
+    → IfOk result (AreDataCounted (HasDataIn (layer_of (sets_in s))) (IsDataIn (layer_of (sets_in s)) init) s.shape (length s.bits.taken) s.bits.left) → IfOk result (IsCounted to init sets header bits)
+counted to init sets header bits s (Ok count) r (mbs, list, read, is) = (coded (sets_in s) s.header mbs, slice_opened to init sets header bits s mbs r list read, is)
+counted to init sets header bits s (Err fault) r is = tt
+
+pub not_counted : (to : Layer) (init : InitTable) (sets : SetMaps) (header : ℕ) (bits : List Bool) (s : OpenSlice) (result : Result ℕ RewriteFault) → IsOpened to sets header bits s
+    → IfErr result (IsNoDataRead (HasDataIn (layer_of (sets_in s))) (IsDataIn (layer_of (sets_in s)) init) s.shape (length s.bits.taken) s.bits.left) → IfErr result (IsNotRead to init sets header bits)
+not_counted to init sets header bits s (Ok count) r none = tt
+not_counted to init sets header bits s (Err fault) r none = not_read to init sets header bits s fault r none
 
 pub slice_read : (init : InitTable) (sets : SetMaps) (header : ℕ) (bits : List Bool) (s : OpenSlice) (mbs : List Mb) → IsOpened Cavlc sets header bits s → HasDataIn (layer_of (sets_in s)) s.shape mbs
     → IsDataIn (layer_of (sets_in s)) init s.shape (length s.bits.taken) mbs s.bits.left → IsSliceRead init sets header bits s.header mbs
@@ -332,12 +344,12 @@ pub shape_written : (to : Layer) (number idc : ℕ) (sets : SetMaps) (header : �
     → shape ≡ shape_of (active_in to number (unconstrained (sets_in s))) (header_in to number idc s.header) → IsBuiltIn to shape
 shape_written to number idc sets header bits s shape r is = subst (IsBuiltIn to) (sym is) (written_built to number idc (sets_in s) s.header r.built)
 
--- under the number of the set that it names, a slice is written as it stands in the layer
-pub written_under_own : (o : Options) (sets : SetMaps) (header : ℕ) (bits : List Bool) (s : OpenSlice) (payload : List ℕ) (macroblocks : ℕ) → IsOpened o.to sets header bits s → (f : IsSliceForm o s.header.pic_parameter_set_id sets header bits payload macroblocks)
-    → IsSliceBits o.init (slice_in o.to f.idc f.slice) (bits_of payload)
-written_under_own o sets header bits s payload macroblocks r f =
+-- under the number by which slices in range name its set, a slice is written as one in range
+pub written_under_own : (o : Options) (range : Option (ℕ × ℕ)) (sets : SetMaps) (header : ℕ) (bits : List Bool) (s : OpenSlice) (payload : List ℕ) (macroblocks : ℕ) → IsOpened o.to sets header bits s
+    → (f : IsSliceForm o (number_in range s.header.pic_parameter_set_id) sets header bits payload macroblocks) → IsSliceBits o.init (slice_under o.to (number_in range f.slice.header.pic_parameter_set_id) f.idc f.slice) (bits_of payload)
+written_under_own o range sets header bits s payload macroblocks r f =
     let same = (header-once sets header bits s.header f.slice.header s.bits.left f.read.rest r.text f.read.header_is).0 in
-    let P : Header → Type 0 = λ h. IsSliceBits o.init (slice_under o.to h.pic_parameter_set_id f.idc f.slice) (bits_of payload) in
+    let P : Header → Type 0 = λ h. IsSliceBits o.init (slice_under o.to (number_in range h.pic_parameter_set_id) f.idc f.slice) (bits_of payload) in
     subst P same f.written
 
 pub refused_as : (to : Layer) (init : InitTable) (sets : SetMaps) (header : ℕ) (bits : List Bool) (fault : RewriteFault) → IsNotOpened to sets header bits fault → IsSliceRefusal to init sets header bits fault

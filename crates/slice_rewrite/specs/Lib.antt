@@ -1,6 +1,7 @@
 pub mod Options
 pub mod Layers
 pub mod Items
+pub mod Periods
 pub mod Written
 pub mod Picks
 pub mod Stops

@@ -56,6 +56,10 @@ coded active h mbs = record { header = h; active = active; mbs = mbs }
 abbrev pub IsSliceRead : InitTable → SetMaps → ℕ → List Bool → Header → List Mb → Type 0
 IsSliceRead init sets header bits h mbs = (active : Active) × IsSliceOf Cavlc init sets header bits (coded active h mbs)
 
+-- the bits are those of a slice with so many macroblocks
+abbrev pub IsCounted : Layer → InitTable → SetMaps → ℕ → List Bool → ℕ → Type 0
+IsCounted to init sets header bits count = (slice : Slice) × IsSliceOf to init sets header bits slice × (count ≡ length slice.mbs)
+
 -- the bits are those of no slice, or there is no memory
 abbrev pub IsNotRead : Layer → InitTable → SetMaps → ℕ → List Bool → RewriteFault → Type 0
 IsNotRead to init sets header bits (Outside why) = IsNoSlice to init sets header bits why
@@ -132,6 +136,10 @@ abbrev pub IsNoDataRead : (SliceShape → List Mb → Type 0) → (SliceShape �
 IsNoDataRead HasData IsData shape pos left (Outside why) = (why ≡ BadSlice) × NoList HasData IsData shape pos left
 IsNoDataRead HasData IsData shape pos left (Stop case k) = ⊥
 IsNoDataRead HasData IsData shape pos left Memory = Unit {0}
+
+-- they are those of so many macroblocks
+abbrev pub AreDataCounted : (SliceShape → List Mb → Type 0) → (SliceShape → ℕ → List Mb → List Bool → Type 0) → SliceShape → ℕ → List Bool → ℕ → Type 0
+AreDataCounted HasData IsData shape pos left count = (mbs : List Mb) × HasData shape mbs × IsData shape pos mbs left × (count ≡ length mbs)
 
 -- these macroblocks can be written, and their data were, behind others
 pub record IsDataWritten (IsWritten : SliceShape → ℕ → List Mb → List Bool → Type 0) (to : Layer) (shape : SliceShape) (mbs : List Mb) (before after : List Bool) : Type 0 where

@@ -27,7 +27,8 @@ use Rattle.slice_rewrite.specs.Layers.{layer_of, NoDataIn}
 use Rattle.slice_rewrite.specs.Options.{Options}
 use Rattle.slice_rewrite.specs.declared.kinds.UnitKind.{UnitKind}
 use Rattle.slice_rewrite.specs.declared.kinds.UnitKind.TheVariants.{Slice as IsSlice, Sps as IsSps, Pps as IsPps, Refused as IsRefused}
-use Rattle.slice_rewrite.specs.Items.{header_of, kind_of, Item, Carried, TheSps, ThePps, TheSlice, sets_behind, is_unbuilt, IsItem}
+use Rattle.slice_rewrite.specs.Items.{header_of, kind_of, Slice, Item, Carried, TheSps, ThePps, TheSlice, sets_behind, is_unbuilt, IsItem}
+use Rattle.slice_rewrite.specs.Periods.{is_in_range}
 use Rattle.slice_rewrite.specs.Stops.{slice_stop}
 
 -- the number of a unit, which stands still at the greatest u64
@@ -106,11 +107,16 @@ abbrev pub number_stop : Option (ℕ × ℕ) → Bool → Option (Case × ℕ)
 number_stop None taken = None
 number_stop (Some range) taken = if taken then Some (Number, 0) else None
 
+-- a slice that isn't recoded can be written as it was read
+abbrev pub recoded_stop : Bool → Layer → Slice → Option (Case × ℕ)
+recoded_stop true to s = slice_stop to s
+recoded_stop false to s = None
+
 -- why an item can't be written behind those before it, and the number of the macroblock
 abbrev pub stop_of : Options → List Item → Item → Option (Case × ℕ)
 stop_of o before (Carried unit) = None
 stop_of o before (TheSps header sps) = None
-stop_of o before (TheSlice slice) = slice_stop o.to slice
+stop_of o before (TheSlice slice) = recoded_stop (is_in_range o.range before slice) o.to slice
 stop_of o before (ThePps header pps) = number_stop o.range (has_pps before (255 - pps.pic_parameter_set_id))
 
 -- ## Streams

@@ -1,7 +1,6 @@
 -- What two streams say when they say the same: all but how their slices are coded, the promises of their sequence
 -- parameter sets about that, and their picture parameter sets, but for what the slices hold of them, without numbers.
-use Rattle.std.specs.Prelude.{◌≡◌, ℕ, ℤ, pos, false, List, [], ◌∷◌, map, None}
-use Rattle.std.specs.List.{AllByRecursion}
+use Rattle.std.specs.Prelude.{◌≡◌, ℕ, ℤ, pos, Bool, true, false, List, [], ◌∷◌, map, Option, None}
 use Rattle.h264_types.specs.Qp.{next_qp}
 use Rattle.h264_types.specs.Units.{Splits}
 use Rattle.h264_types.specs.declared.layer.Layer.{Layer}
@@ -16,7 +15,9 @@ use Rattle.pattern_fix.specs.NormalPattern.{normal}
 use Rattle.slice_header.specs.Shape.{shape_of}
 use Rattle.header_parts.specs.declared.header.Header.{Header}
 use Rattle.slice_rewrite.specs.Items.{Slice, Item, Carried, TheSps, ThePps, TheSlice, AreItems}
-use Rattle.slice_rewrite.specs.Stops.{slice_stop}
+use Rattle.slice_rewrite.specs.Options.{Options}
+use Rattle.slice_rewrite.specs.Periods.{is_in_range}
+use Rattle.slice_rewrite.specs.Verdict.{stop_of}
 
 -- each macroblock with its quantiser QPY in the place of mb_qp_delta (7-37), behind a macroblock of this QPY; P_8x8ref0
 -- is P_8x8 with four reference indices 0
@@ -58,25 +59,33 @@ view (TheSlice s ∷ items) = TheSliceView (slice_view s) ∷ view items
 abbrev pub Reads : Layer → InitTable → List ℕ → List Item → Type 0
 Reads to init b items = (units : List (List ℕ)) × Splits b units None × AreItems to init [] units items
 
--- the item is no slice, or one that can be written in this layer
-abbrev pub IsWritable : Layer → Item → Type 0
-IsWritable to (TheSlice s) = slice_stop to s ≡ None
-IsWritable to _ = Unit {0}
+-- each item can be written behind those before it, of which the last one comes first: no stop stands
+abbrev pub CanBeWritten : Options → List Item → List Item → Type 0
+CanBeWritten o before [] = Unit {0}
+CanBeWritten o before (i ∷ items) = (stop_of o before i ≡ None) × CanBeWritten o (i ∷ before) items
 
--- each slice can be written in this layer
-abbrev pub CanBeWritten : Layer → List Item → Type 0
-CanBeWritten to items = AllByRecursion (IsWritable to) items
+-- a slice that is recoded is in this layer
+abbrev pub IsInLayer : Bool → Layer → Slice → Type 0
+IsInLayer true to s = s.active.pps.entropy_coding_mode_flag ≡ mode_flag_of to
+IsInLayer false to s = Unit {0}
 
--- each slice is in this layer
-abbrev pub AreInLayer : Layer → List Item → Type 0
-AreInLayer to [] = Unit {0}
-AreInLayer to (TheSlice s ∷ items) = (s.active.pps.entropy_coding_mode_flag ≡ mode_flag_of to) × AreInLayer to items
-AreInLayer to (_ ∷ items) = AreInLayer to items
+-- each slice of the range, without one each slice, is in this layer, behind those items, of which the last one comes first
+abbrev pub AreInLayer : Layer → Option (ℕ × ℕ) → List Item → List Item → Type 0
+AreInLayer to range before [] = Unit {0}
+AreInLayer to range before (TheSlice s ∷ items) = IsInLayer (is_in_range range before s) to s × AreInLayer to range (TheSlice s ∷ before) items
+AreInLayer to range before (i ∷ items) = AreInLayer to range (i ∷ before) items
 
--- Recoded for the layer, the stream of these items gives bytes that have a reading, with every slice in the layer, and
--- they say the same.
-pub record SaysTheSame (to : Layer) (init : InitTable) (items : List Item) (bytes : List ℕ) : Type 0 where
+-- of each slice among these items, in order, whether it is one of the range, behind those items, of which the last one comes first
+abbrev pub are_in_range : Option (ℕ × ℕ) → List Item → List Item → List Bool
+are_in_range range before [] = []
+are_in_range range before (TheSlice s ∷ items) = is_in_range range before s ∷ are_in_range range (TheSlice s ∷ before) items
+are_in_range range before (i ∷ items) = are_in_range range (i ∷ before) items
+
+-- Recoded for the layer, the stream of these items gives bytes that have a reading, with every slice of the range in the layer,
+-- and they say the same. The slices of the range are those that were so in the stream.
+pub record SaysTheSame (o : Options) (items : List Item) (bytes : List ℕ) : Type 0 where
   pub back : List Item
-  pub reads : Reads to init bytes back
-  pub layer : AreInLayer to back
+  pub reads : Reads o.to o.init bytes back
+  pub layer : AreInLayer o.to o.range [] back
+  pub periods : are_in_range o.range [] back ≡ are_in_range o.range [] items
   pub same : view back ≡ view items

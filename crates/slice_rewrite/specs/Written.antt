@@ -1,5 +1,5 @@
 -- What is written for a stream.
-use Rattle.std.specs.Prelude.{◌≡◌, ℕ, ◌-◌, Bool, List, [], ◌∷◌, ◌++◌, length, map, Option, Some, None}
+use Rattle.std.specs.Prelude.{◌≡◌, ℕ, ◌-◌, Bool, true, false, List, [], ◌∷◌, ◌++◌, length, map, Option, Some, None}
 use Rattle.std.specs.List.{concat}
 use Rattle.bit_texts.specs.Bits.{bytes_of}
 use Rattle.exp_golomb.specs.EmulationPrevention.{escaped}
@@ -15,6 +15,7 @@ use Rattle.slice_header.specs.Shape.{shape_of}
 use Rattle.slice_rewrite.specs.Items.{Slice, Item, Carried, TheSps, ThePps, TheSlice}
 use Rattle.slice_rewrite.specs.Layers.{layer_of, IsNormalDataIn}
 use Rattle.slice_rewrite.specs.Options.{Options, IsTried}
+use Rattle.slice_rewrite.specs.Periods.{is_in_range, number_in}
 
 -- a unit behind zero_byte and start_code_prefix_one_3bytes (B.1.1)
 abbrev pub with_start_code : List ℕ → List ℕ
@@ -56,14 +57,21 @@ pub record IsSliceBits (init : InitTable) (s : Slice) (bits : List Bool) : Type 
 abbrev pub IsSliceUnit : InitTable → Slice → List ℕ → Type 0
 IsSliceUnit init s unit = (bits : List Bool) × IsSliceBits init s bits × (unit ≡ s.header.nal ∷ escaped (bytes_of bits))
 
--- The units that are written for a unit, which is read as this item. No run is partial yet: a slice outside a range isn't
--- told apart.
-abbrev pub AreUnitsFor : Options → List ℕ → Item → List (List ℕ) → Type 0
-AreUnitsFor o unit (Carried u) units = units ≡ u ∷ []
-AreUnitsFor o unit (TheSps header sps) units = units ≡ sps_unit header sps ∷ []
-AreUnitsFor o unit (ThePps header pps) units = units ≡ pps_units o o.range unit header pps
-AreUnitsFor o unit (TheSlice s) units =
-    (idc : ℕ) × (new : List ℕ) × IsTried o.tries idc × IsSliceUnit o.init (slice_in o.to idc s) new × (units ≡ new ∷ [])
+-- this unit is written for a slice, whose picture parameter set has this number in it, with this cabac_init_idc where it stands
+abbrev pub IsTriedUnit : Options → ℕ → ℕ → Slice → List ℕ → Type 0
+IsTriedUnit o number idc s new = IsTried o.tries idc × IsSliceUnit o.init (slice_under o.to number idc s) new
+
+-- a slice that is recoded is written anew, and another one as it was read
+abbrev pub IsUnitFor : Bool → Options → List ℕ → Slice → List ℕ → Type 0
+IsUnitFor true o unit s new = (idc : ℕ) × IsTriedUnit o (number_in o.range s.header.pic_parameter_set_id) idc s new
+IsUnitFor false o unit s new = new ≡ unit
+
+-- the units that are written for a unit, which is read as this item behind those items, of which the last one comes first
+abbrev pub AreUnitsFor : Options → List Item → List ℕ → Item → List (List ℕ) → Type 0
+AreUnitsFor o before unit (Carried u) units = units ≡ u ∷ []
+AreUnitsFor o before unit (TheSps header sps) units = units ≡ sps_unit header sps ∷ []
+AreUnitsFor o before unit (ThePps header pps) units = units ≡ pps_units o o.range unit header pps
+AreUnitsFor o before unit (TheSlice s) units = (new : List ℕ) × IsUnitFor (is_in_range o.range before s) o unit s new × (units ≡ new ∷ [])
 
 -- the macroblocks of a slice
 abbrev pub macroblocks_of : Item → ℕ
@@ -73,16 +81,17 @@ macroblocks_of (ThePps header pps) = 0
 macroblocks_of (TheSlice s) = length s.mbs
 
 -- the bytes that are written for a unit
-abbrev pub IsFormOf : Options → List ℕ → Item → List ℕ → Type 0
-IsFormOf o unit i form = (units : List (List ℕ)) × AreUnitsFor o unit i units × (form ≡ concat (map with_start_code units))
+abbrev pub IsFormOf : Options → List Item → List ℕ → Item → List ℕ → Type 0
+IsFormOf o before unit i form = (units : List (List ℕ)) × AreUnitsFor o before unit i units × (form ≡ concat (map with_start_code units))
 
--- what is written for these units, one after another, which are read as these items up to the verdict
-abbrev pub AreForms : Options → List (List ℕ) → List Item → List (List ℕ) → Type 0
-AreForms o [] items forms = forms ≡ []
-AreForms o (u ∷ us) [] forms = forms ≡ []
-AreForms o (u ∷ us) (i ∷ items) [] = ⊥
-AreForms o (u ∷ us) (i ∷ items) (form ∷ forms) = IsFormOf o u i form × AreForms o us items forms
+-- What is written for these units, one after another, which are read as these items up to the verdict, behind those items, of
+-- which the last one comes first.
+abbrev pub AreForms : Options → List Item → List (List ℕ) → List Item → List (List ℕ) → Type 0
+AreForms o before [] items forms = forms ≡ []
+AreForms o before (u ∷ us) [] forms = forms ≡ []
+AreForms o before (u ∷ us) (i ∷ items) [] = ⊥
+AreForms o before (u ∷ us) (i ∷ items) (form ∷ forms) = IsFormOf o before u i form × AreForms o (i ∷ before) us items forms
 
 -- all bytes that are written for them
 abbrev pub IsOutput : Options → List (List ℕ) → List Item → List ℕ → Type 0
-IsOutput o units items bytes = (forms : List (List ℕ)) × AreForms o units items forms × (bytes ≡ concat forms)
+IsOutput o units items bytes = (forms : List (List ℕ)) × AreForms o [] units items forms × (bytes ≡ concat forms)

@@ -1,5 +1,5 @@
 //! Laws of slices and whole streams: functions that do nothing, whose clauses are the laws.
-ghost use Rattle.std.specs.Prelude.{false, ◌≡◌, ◌<◌, ◌↔◌, List, Bool, length, map, ℕ, pos, true, Option, Some, None, option_map, slice_get};
+ghost use Rattle.std.specs.Prelude.{false, ◌≡◌, ◌<◌, ◌↔◌, List, [], Bool, length, map, ℕ, pos, true, Option, Some, None, option_map, slice_get};
 ghost use Rattle.h264_types.specs.declared.fault.Why.{Why};
 ghost use Rattle.h264_types.specs.declared.fault.Stopped.{Stopped};
 ghost use Rattle.h264_types.specs.declared.macroblock.Mb.{Mb};
@@ -44,12 +44,12 @@ pub fn all_is_judged()
     ensures so_far { (o : Options) (b : List ℕ) → (items : List Item) × (verdict : Option Stopped) × Recodes o (seen b) items verdict }
 {}
 
-/// A stream without a verdict is read as its items. In a run that isn't partial a stream that is read has no verdict where
-/// each of its slices can be written.
+/// A stream without a verdict is read as its items, each of which can be written behind those before it. Such a stream has no
+/// verdict.
 pub fn streams_that_are_read()
     ensures read { (o : Options) (b : List ℕ) (items : List Item) → Recodes o (seen_whole b) items None → Reads o.to o.init b items }
-    ensures recoded { (o : Options) (b : List ℕ) (items : List Item) → o.range ≡ None → Reads o.to o.init b items → CanBeWritten o.to items → Recodes o (seen_whole b) items None }
-    ensures stopless { (o : Options) (b : List ℕ) (items : List Item) → Recodes o (seen_whole b) items None → CanBeWritten o.to items }
+    ensures recoded { (o : Options) (b : List ℕ) (items : List Item) → Reads o.to o.init b items → CanBeWritten o [] items → Recodes o (seen_whole b) items None }
+    ensures stopless { (o : Options) (b : List ℕ) (items : List Item) → Recodes o (seen_whole b) items None → CanBeWritten o [] items }
 {}
 
 /// A stream is read in one way at most, whichever layers it is read for.
@@ -57,13 +57,14 @@ pub fn one_reading()
     ensures { (to other : Layer) (init : InitTable) (b : List ℕ) (first second : List Item) → Reads to init b first → Reads other init b second → first ≡ second }
 {}
 
-/// What is written for a stream without a verdict has a reading, with each slice in the wanted layer, and says the same.
+/// What is written for a stream without a verdict has a reading, with each slice of the range in the wanted layer, and says the
+/// same.
 pub fn written_bytes_say_the_same()
-    ensures { (o : Options) (b : List ℕ) (items : List Item) (bytes : List ℕ) → o.range ≡ None → Recodes o (seen_whole b) items None → IsOutput o (seen_whole b).units items bytes → SaysTheSame o.to o.init items bytes }
+    ensures { (o : Options) (b : List ℕ) (items : List Item) (bytes : List ℕ) → Recodes o (seen_whole b) items None → IsOutput o (seen_whole b).units items bytes → SaysTheSame o items bytes }
 {}
 
-/// What is written for a recoded stream may be written for the stream itself: by way of the other layer and back, and recoded
-/// twice, a stream is as it is recoded once.
+/// In runs that aren't partial, what is written for a recoded stream may be written for the stream itself: by way of the other
+/// layer and back, and recoded twice, a stream is as it is recoded once.
 pub fn recoded_again()
     ensures { (o again : Options) (b : List ℕ) (items : List Item) (bytes : List ℕ) (back : List Item) (twice : List ℕ) → o.range ≡ None → again.range ≡ None → again.init ≡ o.init →
         Recodes o (seen_whole b) items None → IsOutput o (seen_whole b).units items bytes →

@@ -1,12 +1,14 @@
 // A slice whose header was read, before its macroblocks are.
 ghost use Rattle.std.specs.Prelude.{◌≡◌, ◌≤◌, ℕ, List, Bool, IfOk, IfErr};
 ghost use Rattle.bit_texts.specs.Bits.{bits_of};
-ghost use Rattle.header_parts.specs.ActiveSets.{active_view};
+ghost use Rattle.h264_types.specs.declared.macroblock.Mb.{Mb};
+ghost use Rattle.header_parts.specs.ActiveSets.{Active, active_view};
 ghost use Rattle.header_parts.specs.declared.header.Header.{Header};
 ghost use Rattle.slice_header.specs.Shape.{shape_of};
 ghost use Rattle.slice_rewrite.specs.Items.{is_unbuilt};
 ghost use Rattle.slice_rewrite.specs.Layers.{layer_of};
-ghost use Rattle.slice_rewrite.specs.SliceForms.{IsOpened, IsNotOpened, sets_in};
+ghost use Rattle.slice_rewrite.specs.Periods.{idr_of};
+ghost use Rattle.slice_rewrite.specs.SliceForms.{IsOpened, IsNotOpened, coded, sets_in};
 
 use crate::fault::RewriteFault;
 use exp_golomb::SliceBits;
@@ -32,6 +34,17 @@ impl OpenSlice<'_> {
         ensures { result ≡ self.now.header.pic_parameter_set_id }
     {
         self.header.pic_parameter_set_id as u8
+    }
+
+    /// idr_pic_id, where the slice is one of an IDR picture (7.4.3).
+    pub fn idr_pic_id(&self) -> Option<u32>
+        ensures { (active : Active) (mbs : List Mb) → result ≡ idr_of (coded active self.now.header mbs) }
+    {
+        if self.header.nal % 32 == 5 {
+            Some(self.header.idr_pic_id)
+        } else {
+            None
+        }
     }
 
     /// The entropy layer of the slice (7.4.2.2).

@@ -9,6 +9,6 @@ pub struct Plan {
     pub to: Layer,
 
     /// The first and the last IDR period to be recoded, where the run is partial. Slices outside of them are written
-    /// as they were read. No run is partial yet: a recoder is made without a range alone.
+    /// as they were read.
     pub range: Option<(u32, u32)>,
 }

@@ -3,11 +3,12 @@ ghost use Rattle.std.specs.Prelude.{[], ℕ, Bool, List, length, IfOk, IfErr};
 ghost use Rattle.bit_texts.specs.Bits.{bits_of};
 ghost use Rattle.h264_types.specs.SliceShape.{IsSliceShape};
 ghost use Rattle.init_table.specs.declared.table.InitTable.{InitTable};
+ghost use Rattle.param_sets.specs.Sets.{SetMaps};
 ghost use Rattle.slice_rewrite.specs.Layers.{HasDataIn, IsBuiltIn, IsDataIn};
-ghost use Rattle.slice_rewrite.specs.SliceForms.{IsSliceRead, IsNotRead, IsNoDataRead};
+ghost use Rattle.slice_rewrite.specs.SliceForms.{AreDataCounted, IsCounted, IsNoDataRead, IsNotRead, IsOpened, IsSliceRead};
 
 use crate::fault::RewriteFault;
-use crate::opening::open_slice;
+use crate::opening::{OpenSlice, open_slice};
 use crate::slice::Slice;
 use cabac_syntax::CabacReader;
 use cavlc_syntax::CavlcReader;
@@ -36,6 +37,46 @@ pub fn read_slice(
         header: opened.header,
         mbs,
     })
+}
+
+impl OpenSlice<'_> {
+    /// Reads the slice data to their end, and answers how many macroblocks they have.
+    ///
+    /// Outside: the payload has no reading. Stop never comes.
+    pub fn count(&self, alloc: Global, init: &InitTable) -> Result<u32, RewriteFault>
+        requires { (to : Layer) × (sets : SetMaps) × (header : ℕ) × (bits : List Bool) × IsOpened to sets header bits self.now }
+        ensures ok { (to : Layer) (sets : SetMaps) (header : ℕ) (bits : List Bool) → IsOpened to sets header bits self.now → IfOk result (IsCounted to init.now sets header bits) }
+        ensures err { (to : Layer) (sets : SetMaps) (header : ℕ) (bits : List Bool) → IsOpened to sets header bits self.now → IfErr result (IsNotRead to init.now sets header bits) }
+    {
+        let bits = self.bits.again();
+        match self.layer() {
+            Layer::Cavlc => {
+                let reader = CavlcReader::start(alloc, self.shape, bits)?;
+                count_data(self.shape, reader)
+            }
+            Layer::Cabac => {
+                let reader = CabacReader::start(alloc, self.shape, init, bits)?;
+                count_data(self.shape, reader)
+            }
+        }
+    }
+}
+
+// Reads slice data to their end, and counts their macroblocks.
+fn count_data<R: SliceReader>(shape: SliceShape, mut reader: R) -> Result<u32, RewriteFault>
+    requires shape { IsSliceShape shape }
+    requires reads { (init : InitTable) × (pos : ℕ) × (left : List Bool) × R.stands init reader shape pos left [] }
+    ensures ok { (init : InitTable) (pos : ℕ) (left : List Bool) → R.stands init reader shape pos left [] → IfOk result (AreDataCounted R.has_data (R.is_data init) shape pos left) }
+    ensures err { (init : InitTable) (pos : ℕ) (left : List Bool) → R.stands init reader shape pos left [] → IfErr result (IsNoDataRead R.has_data (R.is_data init) shape pos left) }
+{
+    let mut mb = Mb::without_elements(MbKind::Skip);
+    for count in 0..shape.width * shape.height + 1 {
+        let more = reader.next_into(&mut mb)?;
+        if !more {
+            return Ok(count);
+        }
+    }
+    unreachable!()
 }
 
 // Reads slice data of a layer to their end.
