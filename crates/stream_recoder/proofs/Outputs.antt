@@ -9,22 +9,22 @@ use Rattle.h264_types.specs.declared.fault.Stopped.TheVariants.{Stop as StopAt, 
 use Rattle.h264_types.specs.Units.{Seen, Stays, seen}
 use Rattle.h264_types.proofs.Stays.{seen-stays}
 use Rattle.slice_rewrite.specs.Options.{Options}
-use Rattle.slice_rewrite.specs.Items.{Item}
+use Rattle.slice_rewrite.specs.Items.{Item, behind}
 use Rattle.slice_rewrite.specs.Verdict.{unit_number, Judges, Recodes}
 use Rattle.slice_rewrite.specs.Written.{AreForms, IsOutput}
 use Rattle.slice_rewrite.proofs.Judging.{one-verdict, verdict-stays}
 use Rattle.slice_rewrite.specs.declared.pick.Tries.{Tries}
 use Rattle.stream_recoder.specs.Written.{Written, AreWritten, GoesAlong, GoesOn, forms}
 
-forms_are : (o : Options) (us : List (List ℕ)) (items : List Item) (written : List Written) → AreWritten o us items written → AreForms o us items (map (λ w. w.form) written)
-forms_are o [] items written h = ap (map (λ w. w.form)) h
-forms_are o (u ∷ us) [] written h = ap (map (λ w. w.form)) h
-forms_are o (u ∷ us) (i ∷ items) [] h = h
-forms_are o (u ∷ us) (i ∷ items) (w ∷ written) h = (h.0.form, forms_are o us items written h.1)
+forms_are : (o : Options) (before : List Item) (us : List (List ℕ)) (items : List Item) (written : List Written) → AreWritten o before us items written → AreForms o before us items (map (λ w. w.form) written)
+forms_are o before [] items written h = ap (map (λ w. w.form)) h
+forms_are o before (u ∷ us) [] written h = ap (map (λ w. w.form)) h
+forms_are o before (u ∷ us) (i ∷ items) [] h = h
+forms_are o before (u ∷ us) (i ∷ items) (w ∷ written) h = (h.0.form, forms_are o (i ∷ before) us items written h.1)
 
 -- all that is written, unit by unit
-pub output_is : (o : Options) (us : List (List ℕ)) (items : List Item) (written : List Written) → AreWritten o us items written → IsOutput o us items (forms written)
-output_is o us items written h = (map (λ w. w.form) written, forms_are o us items written h, refl)
+pub output_is : (o : Options) (us : List (List ℕ)) (items : List Item) (written : List Written) → AreWritten o [] us items written → IsOutput o us items (forms written)
+output_is o us items written h = (map (λ w. w.form) written, forms_are o [] us items written h, refl)
 
 pub forms-append : (xs ys : List Written) → forms (xs ++ ys) ≡ forms xs ++ forms ys
 forms-append xs ys = ap concat (map-append (λ w. w.form) xs ys) ∙ concat-append (map (λ w. w.form) xs) (map (λ w. w.form) ys)
@@ -32,7 +32,7 @@ forms-append xs ys = ap concat (map-append (λ w. w.form) xs ys) ∙ concat-appe
 -- ## More units
 
 -- what is written up to a verdict stays
-forms-kept : (o : Options) (before : List Item) (us more : List (List ℕ)) (fault : Option Why) (items : List Item) (v : Stopped) (all : List (List ℕ)) → Judges o before us fault items (Some v) → (fault ≡ None) → AreForms o us items all → AreForms o (us ++ more) items all
+forms-kept : (o : Options) (before : List Item) (us more : List (List ℕ)) (fault : Option Why) (items : List Item) (v : Stopped) (all : List (List ℕ)) → Judges o before us fault items (Some v) → (fault ≡ None) → AreForms o before us items all → AreForms o before (us ++ more) items all
 forms-kept o before [] more fault [] v all h e k = absurd (let f : Some v ≡ None = h ∙ ap (option_map (OutsideAt (unit_number (length before)))) e in cc)
 forms-kept o before [] more fault (i ∷ items) v all h e k = absurd h
 forms-kept o before (u ∷ us) more fault [] v all h e k = k
@@ -51,8 +51,8 @@ pub output-same : (o : Options) (b c : List ℕ) (items : List Item) (v : Stoppe
 output-same o b c items v bytes h k = same-by o (seen b) (seen (b ++ c)) (seen b).fault items v bytes (seen-stays b c) refl h k
 
 -- behind what is written for units without a verdict stands what is written for more
-pub written-more : (o : Options) (before : List Item) (us more : List (List ℕ)) (is rest : List Item) (written others : List Written) → Judges o before us None is None → AreWritten o us is written → AreWritten o more rest others
-    → AreWritten o (us ++ more) (is ++ rest) (written ++ others)
+pub written-more : (o : Options) (before : List Item) (us more : List (List ℕ)) (is rest : List Item) (written others : List Written) → Judges o before us None is None → AreWritten o before us is written
+    → AreWritten o (behind is before) more rest others → AreWritten o before (us ++ more) (is ++ rest) (written ++ others)
 written-more o before [] more [] rest [] others h k l = l
 written-more o before [] more [] rest (w ∷ written) others h k l = absurd (let e : w ∷ written ≡ [] = k in cc)
 written-more o before [] more (i ∷ is) rest written others h k l = absurd h
@@ -61,22 +61,20 @@ written-more o before (u ∷ us) more (i ∷ is) rest [] others h k l = absurd k
 written-more o before (u ∷ us) more (i ∷ is) rest (w ∷ written) others h k l = (k.0, written-more o (i ∷ before) us more is rest written others h.2 k.1 l)
 
 -- the pick goes on with one unit more
-pub goes-more : {P : Type 0} (tried : P → Tries) (step : P → List ℕ → ℕ → P → Type 0) (o : Options) (before : List Item) (us : List (List ℕ)) (is : List Item) (written : List Written) (i : Item) (w : Written) (old between new : P) → Judges o before us None is None → AreWritten o us is written
-    → GoesAlong tried step o is written old between → GoesOn tried step o i w.form between new → GoesAlong tried step o (is ++ i ∷ []) (written ++ w ∷ []) old new
-goes-more tried step o before [] [] [] i w old between new h k g n = let G : _ → Type 0 = λ p. GoesOn tried step o i w.form p new in (new, subst G g n, refl)
-goes-more tried step o before [] [] (x ∷ written) i w old between new h k g n = absurd (let e : x ∷ written ≡ [] = k in cc)
-goes-more tried step o before [] (j ∷ is) written i w old between new h k g n = absurd h
-goes-more tried step o before (u ∷ us) [] written i w old between new h k g n = absurd h
-goes-more tried step o before (u ∷ us) (j ∷ is) [] i w old between new h k g n = absurd k
-goes-more tried step o before (u ∷ us) (j ∷ is) (x ∷ written) i w old between new h k g n = (g.0, g.1, goes-more tried step o (j ∷ before) us is written i w g.0 between new h.2 k.1 g.2 n)
+pub goes-more : {P : Type 0} (tried : P → Tries) (step : P → List ℕ → ℕ → P → Type 0) (o : Options) (before is : List Item) (written : List Written) (i : Item) (w : Written) (old between new : P) → GoesAlong tried step o before is written old between
+    → GoesOn tried step o (behind is before) i w.form between new → GoesAlong tried step o before (is ++ i ∷ []) (written ++ w ∷ []) old new
+goes-more tried step o before [] [] i w old between new g n = let G : _ → Type 0 = λ p. GoesOn tried step o before i w.form p new in (new, subst G g n, refl)
+goes-more tried step o before [] (x ∷ written) i w old between new g n = absurd g
+goes-more tried step o before (j ∷ is) [] i w old between new g n = absurd g
+goes-more tried step o before (j ∷ is) (x ∷ written) i w old between new g n = (g.0, g.1, goes-more tried step o (j ∷ before) is written i w g.0 between new g.2 n)
 
-none_written : (o : Options) (us : List (List ℕ)) (written : List Written) → written ≡ [] → AreWritten o us [] written
-none_written o [] written e = e
-none_written o (u ∷ us) written e = e
+none_written : (o : Options) (before : List Item) (us : List (List ℕ)) (written : List Written) → written ≡ [] → AreWritten o before us [] written
+none_written o before [] written e = e
+none_written o before (u ∷ us) written e = e
 
 -- where only the first units have items, only these are written
-pub written-first : (o : Options) (before : List Item) (us more : List (List ℕ)) (items : List Item) (written : List Written) → Judges o before us None items None → AreWritten o us items written → AreWritten o (us ++ more) items written
-written-first o before [] more [] written h k = none_written o more written k
+pub written-first : (o : Options) (before : List Item) (us more : List (List ℕ)) (items : List Item) (written : List Written) → Judges o before us None items None → AreWritten o before us items written → AreWritten o before (us ++ more) items written
+written-first o before [] more [] written h k = none_written o before more written k
 written-first o before [] more (i ∷ items) written h k = absurd h
 written-first o before (u ∷ us) more [] written h k = absurd h
 written-first o before (u ∷ us) more (i ∷ items) [] h k = k
@@ -86,7 +84,7 @@ written-first o before (u ∷ us) more (i ∷ items) (w ∷ written) h k = (k.0,
 
 -- the units that have items, without the verdict behind them
 pub judged-front : (o : Options) (before : List Item) (us : List (List ℕ)) (fault : Option Why) (items : List Item) (v : Option Stopped) → Judges o before us fault items v →
-    (front : List (List ℕ)) × (later : List (List ℕ)) × (us ≡ front ++ later) × Judges o before front None items None × ((written : List Written) → AreWritten o us items written → AreWritten o front items written)
+    (front : List (List ℕ)) × (later : List (List ℕ)) × (us ≡ front ++ later) × Judges o before front None items None × ((written : List Written) → AreWritten o before us items written → AreWritten o before front items written)
 judged-front o before [] fault [] v h = ([], [], refl, refl, λ written k. k)
 judged-front o before [] fault (i ∷ items) v h = absurd h
 judged-front o before (u ∷ us) fault [] v h = ([], u ∷ us, refl, refl, λ written k. k)
@@ -94,12 +92,13 @@ judged-front o before (u ∷ us) fault (i ∷ items) v h =
     let r = judged-front o (i ∷ before) us fault items v h.2 in
     (u ∷ r.0, r.1, ap (λ x. u ∷ x) r.2, (h.0, h.1, r.3), first r.0 r.4)
   where
-    first : (front : List (List ℕ)) → ((written : List Written) → AreWritten o us items written → AreWritten o front items written) → (written : List Written) → AreWritten o (u ∷ us) (i ∷ items) written → AreWritten o (u ∷ front) (i ∷ items) written
+    first : (front : List (List ℕ)) → ((written : List Written) → AreWritten o (i ∷ before) us items written → AreWritten o (i ∷ before) front items written) → (written : List Written) → AreWritten o before (u ∷ us) (i ∷ items) written
+        → AreWritten o before (u ∷ front) (i ∷ items) written
     first front are [] k = k
     first front are (w ∷ written) k = (k.0, are written k.1)
 
-forms-first : (o : Options) (before : List Item) (us : List (List ℕ)) (fault : Option Why) (items : List Item) (v : Option Stopped) (all : List (List ℕ)) → Judges o before us fault items v → AreForms o us items all →
-    (front : List (List ℕ)) × (later : List (List ℕ)) × (us ≡ front ++ later) × Judges o before front None items None × AreForms o front items all
+forms-first : (o : Options) (before : List Item) (us : List (List ℕ)) (fault : Option Why) (items : List Item) (v : Option Stopped) (all : List (List ℕ)) → Judges o before us fault items v → AreForms o before us items all →
+    (front : List (List ℕ)) × (later : List (List ℕ)) × (us ≡ front ++ later) × Judges o before front None items None × AreForms o before front items all
 forms-first o before [] fault [] v all h k = ([], [], refl, refl, k)
 forms-first o before [] fault (i ∷ items) v all h k = absurd h
 forms-first o before (u ∷ us) fault [] v all h k = ([], u ∷ us, refl, refl, k)
@@ -109,25 +108,25 @@ forms-first o before (u ∷ us) fault (i ∷ items) v (form ∷ all) h k =
     (u ∷ r.0, r.1, ap (λ x. u ∷ x) r.2, (h.0, h.1, r.3), (k.0, r.4))
 
 -- the same of all bytes that are written
-pub output-first : (o : Options) (before : List Item) (us : List (List ℕ)) (fault : Option Why) (items : List Item) (v : Option Stopped) (bytes : List ℕ) → Judges o before us fault items v → IsOutput o us items bytes →
-    (front : List (List ℕ)) × (later : List (List ℕ)) × (us ≡ front ++ later) × Judges o before front None items None × IsOutput o front items bytes
-output-first o before us fault items v bytes h k =
-    let r = forms-first o before us fault items v k.0 h k.1 in
+pub output-first : (o : Options) (us : List (List ℕ)) (fault : Option Why) (items : List Item) (v : Option Stopped) (bytes : List ℕ) → Judges o [] us fault items v → IsOutput o us items bytes →
+    (front : List (List ℕ)) × (later : List (List ℕ)) × (us ≡ front ++ later) × Judges o [] front None items None × IsOutput o front items bytes
+output-first o us fault items v bytes h k =
+    let r = forms-first o [] us fault items v k.0 h k.1 in
     (r.0, r.1, r.2, r.3, (k.0, r.4, k.2))
 
 -- what is written for some units begins with what is written for some first of them, which are read as these items
-abbrev BeginsWith : Options → List (List ℕ) → List Item → List (List ℕ) → List Item → Type 0
-BeginsWith o units items us is = (all : List (List ℕ)) → AreForms o units items all → (first : List (List ℕ)) × (later : List (List ℕ)) × AreForms o us is first × (all ≡ first ++ later)
+abbrev BeginsWith : Options → List Item → List (List ℕ) → List Item → List (List ℕ) → List Item → Type 0
+BeginsWith o before units items us is = (all : List (List ℕ)) → AreForms o before units items all → (first : List (List ℕ)) × (later : List (List ℕ)) × AreForms o before us is first × (all ≡ first ++ later)
 
 -- of what is judged the first units are judged
 judged-before : (o : Options) (before : List Item) (us more : List (List ℕ)) (fault : Option Why) (items : List Item) (v : Option Stopped) → Judges o before (us ++ more) fault items v →
-    (is : List Item) × (w : Option Stopped) × Judges o before us None is w × BeginsWith o (us ++ more) items us is
+    (is : List Item) × (w : Option Stopped) × Judges o before us None is w × BeginsWith o before (us ++ more) items us is
 judged-before o before [] more fault items v h = ([], None, refl, λ all k. ([], all, refl, refl))
 judged-before o before (u ∷ us) more fault (i ∷ items) v h =
     let r = judged-before o (i ∷ before) us more fault items v h.2 in
     (i ∷ r.0, r.1, (h.0, h.1, r.2), begins r.0 r.3)
   where
-    begins : (is : List Item) → BeginsWith o (us ++ more) items us is → BeginsWith o ((u ∷ us) ++ more) (i ∷ items) (u ∷ us) (i ∷ is)
+    begins : (is : List Item) → BeginsWith o (i ∷ before) (us ++ more) items us is → BeginsWith o before ((u ∷ us) ++ more) (i ∷ items) (u ∷ us) (i ∷ is)
     begins is are [] k = absurd k
     begins is are (form ∷ all) k = let r = are all k.1 in (form ∷ r.0, r.1, (k.0, r.2), ap (λ x. form ∷ x) r.3)
 judged-before o before (u ∷ us) more fault [] None h = absurd h
@@ -140,7 +139,7 @@ pub record Before (o : Options) (b : List ℕ) (units : List (List ℕ)) (items 
   pub read : List Item
   pub verdict : Option Stopped
   pub judged : Recodes o (seen b) read verdict
-  pub begins : BeginsWith o units items (seen b).units read
+  pub begins : BeginsWith o [] units items (seen b).units read
 
 before-by : (o : Options) (b c : List ℕ) (fault : Option Why) (items : List Item) (v : Option Stopped) → (seen b).fault ≡ fault → Recodes o (seen (b ++ c)) items v → Before o b (seen (b ++ c)).units items
 before-by o b c None items v e h =
@@ -148,12 +147,12 @@ before-by o b c None items v e h =
     let P : List (List ℕ) → Type 0 = λ us. Judges o [] us (seen (b ++ c)).fault items v in
     let k = judged-before o [] (seen b).units stays.0 (seen (b ++ c)).fault items v (subst P stays.1 h) in
     let F : Option Why → Type 0 = λ f. Judges o [] (seen b).units f k.0 k.1 in
-    let B : List (List ℕ) → Type 0 = λ us. BeginsWith o us items (seen b).units k.0 in
+    let B : List (List ℕ) → Type 0 = λ us. BeginsWith o [] us items (seen b).units k.0 in
     record { read = k.0; verdict = k.1; judged = subst F (sym e) k.2; begins = subst B (sym stays.1) k.3 }
 before-by o b c (Some why) items v e h =
     let same : seen (b ++ c) ≡ seen b = (seen-stays b c).fault why e in
     let P : Seen → Type 0 = λ s. Recodes o s items v in
-    let B : Seen → Type 0 = λ s. BeginsWith o s.units items (seen b).units items in
+    let B : Seen → Type 0 = λ s. BeginsWith o [] s.units items (seen b).units items in
     record { read = items; verdict = v; judged = subst P same h; begins = subst B (sym same) (λ all k. (all, [], k, sym (append-nil all))) }
 
 pub before : (o : Options) (b c : List ℕ) (items : List Item) (v : Option Stopped) → Recodes o (seen (b ++ c)) items v → Before o b (seen (b ++ c)).units items
@@ -177,5 +176,5 @@ output-stays o b c is js v w late h k out =
     let early = before o b c js w k in
     let same = (one-verdict o [] (seen b).units (seen b).fault early.read is early.verdict v early.judged h).0 in
     let begins = early.begins out.0 out.1 in
-    let A : List Item → Type 0 = λ items. AreForms o (seen b).units items begins.0 in
+    let A : List Item → Type 0 = λ items. AreForms o [] (seen b).units items begins.0 in
     (concat begins.0, concat begins.1, (begins.0, subst A same begins.2, refl), out.2 ∙ ap concat begins.3 ∙ concat-append begins.0 begins.1)

@@ -1,3 +1,4 @@
+pub mod Periods
 pub mod Written
 pub mod Forms
 pub mod Recoder

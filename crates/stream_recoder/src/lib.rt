@@ -4,6 +4,7 @@
 #![tactic(auto)]
 
 pub mod laws;
+mod periods;
 mod recoder;
 mod unit_form;
 

@@ -1,9 +1,10 @@
 //! The recoder: the bytes of a stream in, written units out.
-ghost use Rattle.std.specs.Prelude.{◌≡◌, ◌+◌, ◌∷◌, ◌++◌, [], ℕ, List, length, map, Some, None, OnOk, OnErr, OnSome, Err, IfErr, IfOk, IfSome, IfNone};
-ghost use Rattle.slice_rewrite.specs.Items.{unit_type};
+ghost use Rattle.std.specs.Prelude.{◌≡◌, ◌+◌, ◌∷◌, ◌++◌, [], ℕ, List, length, map, Some, OnOk, OnErr, OnSome, Err, IfErr, IfOk, IfSome, IfNone};
+ghost use Rattle.slice_rewrite.specs.Items.{Item, unit_type};
 ghost use Rattle.slice_rewrite.specs.Options.{options};
 ghost use Rattle.stream_recoder.specs.Written.{Written};
 
+use crate::periods::Periods;
 use crate::unit_form::{UnitForm, unit_form};
 use annexb_units::{SplitFault, Splitter};
 use h264_types::{Place, Stopped};
@@ -16,7 +17,8 @@ use stream_taps::Event;
 
 /// Takes the bytes of a stream in pieces of any size, and gives its units as they are written.
 ///
-/// It holds the unit that is being read, the parameter sets that stand, and what was written and not drained yet.
+/// It holds the unit that is being read, the parameter sets that stand, how many IDR periods have begun, and what was written
+/// and not drained yet.
 #[derive(Drop)]
 pub struct Recoder<P> {
     alloc: Global,
@@ -28,19 +30,19 @@ pub struct Recoder<P> {
     splitter: Splitter,
     /// The parameter sets that stand behind the units that were read.
     sets: Sets,
+    /// The IDR periods that have begun with them.
+    periods: Periods,
     forms: VecDeque<(Vec<u8>, Event)>,
     /// The number of units that were read.
     units: u64,
     stopped: Option<Stopped>,
-    ghost whole: { plan.range ≡ None },
 }
 
 impl<P: InitPick> Recoder<P> {
-    ghost use Rattle.stream_recoder.specs.Recoder.{waiting, waiting_count, options_of, IsStopped, HasRecoded, RecodesMore, RecodingStops, Drains, IsKept, Adds, IsRefusedBy, PickStops, stopped_at, TakesAll, TakingStops};
+    ghost use Rattle.stream_recoder.specs.Recoder.{waiting, waiting_count, options_of, IsStopped, StandsBehind, HasRecoded, RecodesMore, RecodingStops, Drains, IsKept, Adds, IsRefusedBy, PickStops, stopped_at, TakesAll, TakingStops};
 
-    /// A recoder at the beginning of a stream, for a run that is not partial.
+    /// A recoder at the beginning of a stream.
     pub fn new(alloc: Global, plan: Plan, init: InitTable, pick: P) -> Result<Recoder<P>, Memory>
-        requires { plan.range ≡ None }
         ensures { IfOk result (λ recoder. HasRecoded P.tried P.step pick recoder [] [] × (options_of P.tried recoder ≡ options plan init (P.tried pick)) × (recoder.pick ≡ pick)) }
     {
         Ok(Recoder {
@@ -50,6 +52,7 @@ impl<P: InitPick> Recoder<P> {
             pick,
             splitter: Splitter::new(alloc),
             sets: Sets::new(alloc),
+            periods: Periods::new(),
             forms: VecDeque::new(alloc),
             units: 0,
             stopped: None,
@@ -119,12 +122,12 @@ impl<P: InitPick> Recoder<P> {
     // Reads a unit, and puts what is written for it behind what waits.
     fn recode(&mut self, unit: &[u8]) -> Result<(), Stopped>
         ensures ok { OnOk result (Adds P.tried P.step self.old self.new unit.now) }
-        ensures err { IfErr result (IsRefusedBy P.tried self.old unit.now) }
+        ensures err { (before : List Item) → StandsBehind before self.old → IfErr result (IsRefusedBy P.tried self.old before unit.now) }
         ensures waits { OnErr result (waiting self.new ≡ waiting self.old) }
         ensures splitter { self.new.splitter ≡ self.old.splitter }
         ensures stops { IfErr result (λ e. self.new.stopped ≡ Some e) }
         ensures options { options_of P.tried self.new ≡ options_of P.tried self.old }
-        ensures pick { IfErr result (λ e. PickStops P.tried P.step (options_of P.tried self.old) e self.old.pick self.new.pick) }
+        ensures pick { (before : List Item) → StandsBehind before self.old → IfErr result (λ e. PickStops P.tried P.step (options_of P.tried self.old) before unit.now e self.old.pick self.new.pick) }
     {
         let form = match unit_form(
             self.alloc,
@@ -132,6 +135,7 @@ impl<P: InitPick> Recoder<P> {
             &self.init,
             &mut self.pick,
             &mut self.sets,
+            &mut self.periods,
             unit,
         ) {
             Ok(form) => form,

@@ -9,6 +9,8 @@ mod failures;
 #[cfg(test)]
 mod flushes;
 #[cfg(test)]
+mod picks;
+#[cfg(test)]
 mod prompt;
 #[cfg(test)]
 mod reports;

@@ -1,108 +1,97 @@
-use Rattle.std.proofs.Common.{◌∙◌, ◌∷◌, ap, List, ℕ, refl, subst, sym}
+-- A slice is written in the wanted layer where it is recoded, and as it was read where it isn't.
+use Rattle.std.proofs.Common.{List, ℕ, true, false, subst, sym}
 use Rattle.std.proofs.lemmas.Result.{err_from_is_err_and}
-use Rattle.bit_texts.specs.Bits.{bits_of, bytes_of}
-use Rattle.exp_golomb.specs.EmulationPrevention.{escaped}
-use Rattle.slice_rewrite.specs.Items.{header_of, TheSlice}
-use Rattle.stream_recoder.specs.Forms.{IsPickBehind}
-use Rattle.slice_rewrite.specs.Options.{options, whole_run}
-use Rattle.slice_rewrite.specs.Written.{with_start_code, slice_under}
-use Rattle.slice_rewrite.specs.SliceForms.{IsOpened, IsNotOpened}
-use Rattle.slice_rewrite.proofs.ComesBack.{slice_payload}
-use Rattle.slice_rewrite.proofs.SliceForms.{refused_as, written_under_own}
-use Rattle.slice_rewrite.proofs.Picked.{has_escape}
-use Rattle.stream_recoder.proofs.UnitForms.{err_all, escape_refused_slice, slice_goes, slice_refused, slice_written, stays_behind}
+use Rattle.bit_texts.specs.Bits.{bits_of}
+use Rattle.param_sets.specs.Sets.{SetMaps}
+use Rattle.slice_rewrite.specs.Items.{header_of, sets_behind}
+use Rattle.slice_rewrite.specs.Options.{options}
+use Rattle.slice_rewrite.specs.SliceForms.{IsOpened, IsNotOpened, sets_in}
+use Rattle.stream_recoder.proofs.UnitForms.{follows, kept_stays, slice_behind, slice_recoded, slice_refused, slice_unread}
+use Rattle.stream_recoder.specs.Forms.{IsPickedForm}
+use Rattle.stream_recoder.specs.declared.unit_form.UnitForm.{UnitForm}
 use Rattle.stream_recoder.proofs.unit_form.coded_form.Goals as goal
-
-pub returns-in_err-payload-clause-err : goal.returns-in_err-payload-clause-err
-returns-in_err-payload-clause-err g c =
-    let p = err_from_is_err_and c.from_residual.result c.from_residual.ensures.1 in
-    let o = options c.args.plan c.args.init.now (g.P.InitPick.tried c.args.pick.now) in
-    rw (p.1, p.2) (escape_refused_slice o c.args.sets.now c.args.unit.now c.in_err-payload.field-0.0 c.requires.kind c.in_err-payload.ensures.err)
+use Rattle.stream_recoder.proofs.unit_form.coded_form.Goals.{then-are_in+in_ok-form, else-are_in+in_ok-form-2}
 
 pub returns-in_err-opened-clause-err : goal.returns-in_err-opened-clause-err
-returns-in_err-opened-clause-err g c =
+returns-in_err-opened-clause-err g c = λ before st.
+    let o = options c.args.plan c.args.init.now (g.P.InitPick.tried c.args.pick.now) in
+    let header = header_of c.args.unit.now in
+    let payload = c.in_ok-payload.payload.items in
+    let fault = c.in_err-opened.field-0.0 in
     let p = err_from_is_err_and c.from_residual-in_err-opened.result c.from_residual-in_err-opened.ensures.1 in
+    let N : List ℕ → Type 0 = λ bytes. IsNotOpened o.to c.args.sets.now header (bits_of bytes) fault in
+    let S : SetMaps → Type 0 = λ sets. IsNotOpened o.to sets header (bits_of payload) fault in
+    let none = subst S st.sets_are (subst N c.as_slice.ensures.value c.in_err-opened.ensures.err) in
+    rw (p.1, p.2) (slice_unread o before c.args.unit.now payload fault c.requires.kind c.in_ok-payload.ensures.ok (none o.init))
+
+pub returns-in_err-form-clause-err : goal.returns-in_err-form-clause-err
+returns-in_err-form-clause-err g c = λ before st.
     let o = options c.args.plan c.args.init.now (g.P.InitPick.tried c.args.pick.now) in
     let header = header_of c.args.unit.now in
-    let N : List ℕ → Type 0 = λ payload. IsNotOpened c.args.plan.to c.args.sets.now header (bits_of payload) c.in_err-opened.field-0.0 in
-    rw (p.1, p.2) (slice_refused o c.args.sets.now c.args.unit.now c.in_ok-payload.payload.items c.in_err-opened.field-0.0 c.requires.kind c.in_ok-payload.ensures.ok
-    (refused_as o.to o.init c.args.sets.now header (bits_of c.in_ok-payload.payload.items) c.in_err-opened.field-0.0 (subst N c.as_slice.ensures.value c.in_err-opened.ensures.err)))
+    let payload = c.in_ok-payload.payload.items in
+    let opened = c.in_ok-opened.opened in
+    let fault = c.in_err-form.field-0.0 in
+    let p = err_from_is_err_and c.from_residual-in_err-form.result c.from_residual-in_err-form.ensures.1 in
+    let O : List ℕ → Type 0 = λ bytes. IsOpened o.to c.args.sets.now header (bits_of bytes) opened in
+    let S : SetMaps → Type 0 = λ sets. IsOpened o.to sets header (bits_of payload) opened in
+    let r = subst S st.sets_are (subst O c.as_slice.ensures.value c.in_ok-opened.ensures.ok) in
+    let k = follows o before header (bits_of payload) opened c.args.periods.now c.behind-behind.result c.idr_pic_id.result true r st.begun (λ mbs. c.idr_pic_id.ensures (sets_in opened) mbs) c.behind-behind.ensures c.if-are_in.ensures in
+    rw (p.1, p.2) (slice_refused o before c.args.unit.now payload c.behind-behind.result fault c.requires.kind c.in_ok-payload.ensures.ok k (c.in_err-form.ensures.err (sets_behind before) (bits_of payload) r))
 
-pub pps_number-number-requires : goal.pps_number-number-requires
-pps_number-number-requires g c = c.in_ok-opened.ensures.ok.fits.pic_parameter_set_id
+pub returns-in_err-form-clause-pick : goal.returns-in_err-form-clause-pick
+returns-in_err-form-clause-pick g c = λ before st.
+    let P = g.P.InitPick in
+    let o = options c.args.plan c.args.init.now (P.tried c.args.pick.now) in
+    let header = header_of c.args.unit.now in
+    let payload = c.in_ok-payload.payload.items in
+    let opened = c.in_ok-opened.opened in
+    let fault = c.in_err-form.field-0.0 in
+    let p = err_from_is_err_and c.from_residual-in_err-form.result c.from_residual-in_err-form.ensures.1 in
+    let O : List ℕ → Type 0 = λ bytes. IsOpened o.to c.args.sets.now header (bits_of bytes) opened in
+    let S : SetMaps → Type 0 = λ sets. IsOpened o.to sets header (bits_of payload) opened in
+    let r = subst S st.sets_are (subst O c.as_slice.ensures.value c.in_ok-opened.ensures.ok) in
+    let k = follows o before header (bits_of payload) opened c.args.periods.now c.behind-behind.result c.idr_pic_id.result true r st.begun (λ mbs. c.idr_pic_id.ensures (sets_in opened) mbs) c.behind-behind.ensures c.if-are_in.ensures in
+    rw (p.1, p.2) (slice_behind P.tried P.step o before c.behind-behind.result c.args.unit.now payload fault c.args.pick.now c.recoded_form.new.pick c.requires.kind c.in_ok-payload.ensures.ok k
+    (c.in_err-form.ensures.pick (sets_behind before) (bits_of payload) r))
 
-pub recode-requires : goal.recode-requires
-recode-requires g c = (c.args.sets.now, _, _, c.in_ok-opened.ensures.ok)
-
-pub returns-in_err-slice-clause-err : goal.returns-in_err-slice-clause-err
-returns-in_err-slice-clause-err g c =
-    let p = err_from_is_err_and c.from_residual-in_err-slice.result c.from_residual-in_err-slice.ensures.1 in
+pub returns-in_err-form-2-clause-err : goal.returns-in_err-form-2-clause-err
+returns-in_err-form-2-clause-err g c = λ before st.
     let o = options c.args.plan c.args.init.now (g.P.InitPick.tried c.args.pick.now) in
     let header = header_of c.args.unit.now in
-    let O : List ℕ → Type 0 = λ payload. IsOpened c.args.plan.to c.args.sets.now header (bits_of payload) c.in_ok-opened.opened in
-    rw (p.1, p.2) (slice_refused o c.args.sets.now c.args.unit.now c.in_ok-payload.payload.items c.in_err-slice.field-0.0 c.requires.kind c.in_ok-payload.ensures.ok
-    (c.in_err-slice.ensures.err c.args.sets.now header (bits_of c.in_ok-payload.payload.items) (subst O c.as_slice.ensures.value c.in_ok-opened.ensures.ok)))
-
-pub payload_unit-requires : goal.payload_unit-requires
-payload_unit-requires g c =
-    let f = (c.in_ok-slice.ensures.ok c.args.sets.now _ _ c.in_ok-opened.ensures.ok).form in
-    let bits = bits_of c.in_ok-slice.slice.payload.items in
-    let written = slice_under c.args.plan.to c.pps_number-number.result f.idc f.slice in
-    has_escape c.as_slice-2.result.now bits (slice_payload c.args.init.now written bits f.written) (ap bits_of c.as_slice-2.ensures.value)
+    let payload = c.in_ok-payload.payload.items in
+    let opened = c.in_ok-opened.opened in
+    let fault = c.in_err-form-2.field-0.0 in
+    let p = err_from_is_err_and c.from_residual-in_err-form-2.result c.from_residual-in_err-form-2.ensures.1 in
+    let O : List ℕ → Type 0 = λ bytes. IsOpened o.to c.args.sets.now header (bits_of bytes) opened in
+    let S : SetMaps → Type 0 = λ sets. IsOpened o.to sets header (bits_of payload) opened in
+    let r = subst S st.sets_are (subst O c.as_slice.ensures.value c.in_ok-opened.ensures.ok) in
+    rw (p.1, p.2) (slice_unread o before c.args.unit.now payload fault c.requires.kind c.in_ok-payload.ensures.ok (c.in_err-form-2.ensures.err o.to (sets_behind before) header (bits_of payload) r))
 
 pub returns-clause-ok : goal.returns-clause-ok
-returns-clause-ok g c =
-    let o = options c.args.plan c.args.init.now (g.P.InitPick.tried c.args.pick.now) in
-    let sets = c.args.sets.now in
+returns-clause-ok g c = λ before st.
+    let P = g.P.InitPick in
+    let o = options c.args.plan c.args.init.now (P.tried c.args.pick.now) in
     let header = header_of c.args.unit.now in
+    let payload = c.in_ok-payload.payload.items in
     let opened = c.in_ok-opened.opened in
-    let slice = c.in_ok-slice.slice in
-    let bits = bits_of c.in_ok-payload.payload.items in
-    let O : List ℕ → Type 0 = λ payload. IsOpened o.to sets header (bits_of payload) opened in
-    let r = subst O c.as_slice.ensures.value c.in_ok-opened.ensures.ok in
-    let picked = rw c.pps_number-number.ensures at (c.in_ok-slice.ensures.ok sets header bits r) in
-    let f = picked.form in
-    let is = c.in_ok-bytes.ensures ∙ ap (λ p. with_start_code (header ∷ escaped (bytes_of (bits_of p)))) c.as_slice-2.ensures.value in
-    record {
-      form_is = slice_written o sets c.args.unit.now c.in_ok-payload.payload.items c.in_ok-bytes.bytes.items slice.payload.items opened.header.pic_parameter_set_id slice.macroblocks c.requires.kind c.in_ok-payload.ensures.ok f
-          (written_under_own (whole_run o.to o.init o.tries) sets header bits opened slice.payload.items slice.macroblocks r f) is;
-      pick = slice_goes g.P.InitPick.tried g.P.InitPick.step c.args.plan c.args.init.now sets header bits opened slice.payload.items slice.macroblocks c.args.pick.now c.recode.new.pick c.in_ok-bytes.bytes.items r picked is;
-    }
-
-pub returns-in_err-payload-clause-pick : goal.returns-in_err-payload-clause-pick
-returns-in_err-payload-clause-pick g c =
-    let P = g.P.InitPick in
-    let o = options c.args.plan c.args.init.now (P.tried c.args.pick.now) in
-    err_all c.from_residual.result (λ fault. IsPickBehind P.tried P.step o fault c.args.pick.now c.args.pick.now) (λ fault. stays_behind P.tried P.step o fault c.args.pick.now)
-
-pub returns-in_err-opened-clause-pick : goal.returns-in_err-opened-clause-pick
-returns-in_err-opened-clause-pick g c =
-    let P = g.P.InitPick in
-    let o = options c.args.plan c.args.init.now (P.tried c.args.pick.now) in
-    err_all c.from_residual-in_err-opened.result (λ fault. IsPickBehind P.tried P.step o fault c.args.pick.now c.args.pick.now) (λ fault. stays_behind P.tried P.step o fault c.args.pick.now)
-
-pub returns-in_err-slice-clause-pick : goal.returns-in_err-slice-clause-pick
-returns-in_err-slice-clause-pick g c =
-    let P = g.P.InitPick in
-    let o = options c.args.plan c.args.init.now (P.tried c.args.pick.now) in
     let old = c.args.pick.now in
-    err_all c.from_residual-in_err-slice.result (λ fault. IsPickBehind P.tried P.step o fault old c.recode.new.pick)
-    (λ fault. let B : _ → Type 0 = λ new. IsPickBehind P.tried P.step o fault old new in subst B (sym c.in_err-slice.ensures.pick) (stays_behind P.tried P.step o fault old))
-
-pub returns-in_err-bytes-clause-pick : goal.returns-in_err-bytes-clause-pick
-returns-in_err-bytes-clause-pick g c =
-    let P = g.P.InitPick in
-    let sets = c.args.sets.now in
-    let header = header_of c.args.unit.now in
-    let opened = c.in_ok-opened.opened in
-    let slice = c.in_ok-slice.slice in
-    let bits = bits_of c.in_ok-payload.payload.items in
-    let O : List ℕ → Type 0 = λ payload. IsOpened c.args.plan.to sets header (bits_of payload) opened in
-    let r = subst O c.as_slice.ensures.value c.in_ok-opened.ensures.ok in
-    let picked = rw c.pps_number-number.ensures at (c.in_ok-slice.ensures.ok sets header bits r) in
-    let p = err_from_is_err_and c.from_residual-in_err-bytes.result c.from_residual-in_err-bytes.ensures.1 in
-    rw (p.1, p.2) (
-      TheSlice picked.form.slice,
-      with_start_code (header ∷ escaped (bytes_of (bits_of slice.payload.items))),
-      slice_goes P.tried P.step c.args.plan c.args.init.now sets header bits opened slice.payload.items slice.macroblocks c.args.pick.now c.recode.new.pick (with_start_code (header ∷ escaped (bytes_of (bits_of slice.payload.items)))) r picked refl,
-    )
+    let O : List ℕ → Type 0 = λ bytes. IsOpened o.to c.args.sets.now header (bits_of bytes) opened in
+    let S : SetMaps → Type 0 = λ sets. IsOpened o.to sets header (bits_of payload) opened in
+    let r = subst S st.sets_are (subst O c.as_slice.ensures.value c.in_ok-opened.ensures.ok) in
+    let F : UnitForm → Type 0 = λ f. IsPickedForm P.tried P.step o before c.args.sets.now c.behind-behind.result c.args.unit.now f.bytes.items f.macroblocks old c.if-are_in.pick in
+    elim c.if-are_in.branch [
+      | then-are_in+in_ok-form w ↦
+          let form = w.in_ok-form.form in
+          let new = w.recoded_form.new.pick in
+          let N : g.row.P.Denot → Type 0 = λ pick. IsPickedForm P.tried P.step o before c.args.sets.now c.behind-behind.result c.args.unit.now form.bytes.items form.macroblocks old pick in
+          let k = follows o before header (bits_of payload) opened c.args.periods.now c.behind-behind.result c.idr_pic_id.result true r st.begun (λ mbs. c.idr_pic_id.ensures (sets_in opened) mbs) c.behind-behind.ensures w.if-are_in.ensures in
+          let is = slice_recoded P.tried P.step o before c.args.sets.now c.behind-behind.result c.args.unit.now payload form.bytes.items form.macroblocks old new c.requires.kind c.in_ok-payload.ensures.ok st.sets_are k (w.in_ok-form.ensures.ok (sets_behind before) (bits_of payload) r) in
+          subst F (sym w.form-is) (subst N (sym w.pick-is) is)
+      | else-are_in+in_ok-form-2 w ↦
+          let form = w.in_ok-form-2.form in
+          let N : g.row.P.Denot → Type 0 = λ pick. IsPickedForm P.tried P.step o before c.args.sets.now c.behind-behind.result c.args.unit.now form.bytes.items form.macroblocks old pick in
+          let k = follows o before header (bits_of payload) opened c.args.periods.now c.behind-behind.result c.idr_pic_id.result false r st.begun (λ mbs. c.idr_pic_id.ensures (sets_in opened) mbs) c.behind-behind.ensures w.if-are_in.ensures in
+          let is = kept_stays P.tried P.step o before c.args.sets.now c.behind-behind.result c.args.unit.now payload form.bytes.items form.macroblocks old c.requires.kind c.in_ok-payload.ensures.ok st.sets_are k
+          (w.in_ok-form-2.ensures.ok o.to (sets_behind before) header (bits_of payload) r) w.in_ok-form-2.ensures.bytes in
+          subst F (sym w.form-is) (subst N (sym w.pick-is) is)
+    ]

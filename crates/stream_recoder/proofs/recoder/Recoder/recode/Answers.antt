@@ -14,20 +14,23 @@ pub returns-clause-ok : goal.returns-clause-ok
 returns-clause-ok g c =
     let tried = g.P.InitPick.tried in
     let r = c.args.self.now in
-    let picked = c.in-Ok.ensures.ok in
-    let f = picked.form_is in
     let form = c.in-Ok.form in
     let event = c.event_of-event.result in
     record {
-      item = f.item;
-      read = f.read;
-      goes_on = f.goes_on;
       written = shown (form.bytes, event);
-      written_is = written_form (options_of tried r) r.sets c.unit_form.new.sets c.args.unit.now form.bytes.items form.macroblocks event f c.event_of-event.ensures;
+      reads = λ before stands.
+          let picked = c.in-Ok.ensures.ok before stands in
+          let f = picked.form_is in
+          record {
+            item = f.item;
+            read = f.read;
+            goes_on = f.goes_on;
+            written_is = written_form (options_of tried r) before c.unit_form.new.sets c.unit_form.new.periods c.args.unit.now form.bytes.items form.macroblocks event f c.event_of-event.ensures;
+            stands = record { sets_are = f.stand.sets_are; begun = f.stand.begun };
+            pick = picked.pick;
+          };
       waits = ap (map shown) c.in-Ok-push_back.ensures.items ∙ map-append shown r.forms.items ((form.bytes, event) ∷ []);
       count = c.saturating_add-self.ensures;
-      sets = f.sets_are;
       stopped = refl;
       options = ap (options r.plan r.init) c.unit_form.ensures.tried;
-      pick = picked.pick;
     }

@@ -2,8 +2,8 @@ use Rattle.std.proofs.Common.{◌∙◌, ◌++◌, ◌∷◌, [], sym, ap, subst
 use Rattle.std.proofs.lemmas.Result.{err_from_is_err_and}
 use Rattle.annexb_units.specs.declared.splitter.Splitter.{Splitter}
 use Rattle.annexb_units.specs.Splitter.{Takes}
-use Rattle.stream_recoder.specs.Recoder.{waiting}
-use Rattle.stream_recoder.proofs.Units.{adds-taken, refused-taken, took-more, none_more, all_more}
+use Rattle.stream_recoder.specs.Recoder.{waiting, options_of}
+use Rattle.stream_recoder.proofs.Units.{adds-taken, refused-taken, stops-taken, took-more, none_more, all_more}
 use Rattle.stream_recoder.proofs.recoder.Recoder.take_ended.Goals as goal
 
 pub loop-unit-preserved : goal.loop-unit-preserved
@@ -14,7 +14,7 @@ loop-unit-preserved g c =
     let r = c.loop-unit.self in
     let r' = c.recode.new.self in
     let u = c.in-Some.unit.items in
-    let a = adds-taken tried step r c.take_unit.new.self c.self-1.given.0 r' u c.deref.result.now c.deref.ensures.value c.in_ok-recode.ensures.ok in
+    let a = adds-taken tried step r c.take_unit.new.self r' u c.deref.result.now c.deref.ensures.value c.in_ok-recode.ensures.ok in
     let P : Splitter → Type 0 = λ s. Takes r.splitter s u in
     record {
       holds = took-more tried step c.args.self.now r r' u i.holds (subst P (sym c.recode.ensures.splitter) c.in-Some.ensures.some) a;
@@ -25,7 +25,7 @@ loop-unit-preserved g c =
 
 pub returns-clause-ok : goal.returns-clause-ok
 returns-clause-ok g c =
-    all_more g.P.InitPick.tried g.P.InitPick.step c.args.self.now c.loop-unit.self _ c.loop-unit.invariant.holds refl refl refl refl refl c.in_default.ensures.none.0 c.in_default.ensures.none.1
+    all_more g.P.InitPick.tried g.P.InitPick.step c.args.self.now c.loop-unit.self _ c.loop-unit.invariant.holds refl refl (λ before stands. record { sets_are = stands.sets_are; begun = stands.begun }) refl refl c.in_default.ensures.none.0 c.in_default.ensures.none.1
 
 pub returns-in_err-recode-clause-err : goal.returns-in_err-recode-clause-err
 returns-in_err-recode-clause-err g c =
@@ -35,5 +35,6 @@ returns-in_err-recode-clause-err g c =
     let r = c.loop-unit.self in
     let p = err_from_is_err_and c.from_residual.result c.from_residual.ensures.1 in
     let u = c.in-Some.unit.items in
-    rw (p.1, p.2) (none_more tried step c.args.self.now r c.recode.new.self c.take_unit.new.self u c.in_err-recode.field-0.0 i.holds i.grows i.options c.in-Some.ensures.some c.in_err-recode.ensures.waits c.in_err-recode.ensures.pick
-    (refused-taken tried step r c.take_unit.new.self c.self-1.given.0 u c.deref.result.now c.in_err-recode.field-0.0 c.deref.ensures.value c.in_err-recode.ensures.err))
+    rw (p.1, p.2) (none_more tried step c.args.self.now r c.recode.new.self c.take_unit.new.self u c.in_err-recode.field-0.0 i.holds i.grows i.options c.in-Some.ensures.some c.in_err-recode.ensures.waits
+    (λ before stands. stops-taken tried step (options_of tried r) before u c.deref.result.now c.in_err-recode.field-0.0 r.pick c.recode.new.self.pick c.deref.ensures.value (c.in_err-recode.ensures.pick before record { sets_are = stands.sets_are; begun = stands.begun }))
+    (λ before stands. refused-taken tried step r c.take_unit.new.self before u c.deref.result.now c.in_err-recode.field-0.0 c.deref.ensures.value (c.in_err-recode.ensures.err before record { sets_are = stands.sets_are; begun = stands.begun })))
