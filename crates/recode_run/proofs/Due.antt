@@ -11,7 +11,7 @@ use Rattle.recode_run.specs.declared.status.Status.{Status}
 use Rattle.recode_run.specs.declared.status.Status.TheVariants.{Ok as Done, BadWords, Stop, Outside, TooMuch, BadTable}
 use Rattle.slice_rewrite.specs.Items.{Item}
 use Rattle.slice_rewrite.specs.Verdict.{Judges, Recodes}
-use Rattle.recode_run.specs.Run.{run_to, judged, IsDueTo, IsDue}
+use Rattle.recode_run.specs.Run.{run_for, judged, IsDueTo, IsDue}
 use Rattle.recode_run.specs.Words.{Request}
 use Rattle.slice_rewrite.proofs.Judging.{judged-all}
 use Rattle.recode_run.proofs.Told.{run-once, due-at, bad-once}
@@ -25,7 +25,7 @@ due-once (Some asked) bound b first second (inl d) (inl e) = bad-once asked.tabl
 due-once (Some asked) bound b first second (inl d) (inr e) = absurd (table-stands asked.table d.0 (e.0, e.1) d.1)
 due-once (Some asked) bound b first second (inr d) (inl e) = absurd (table-stands asked.table e.0 (d.0, d.1) e.1)
 due-once (Some asked) bound b first second (inr d) (inr e) =
-    run-once (run_to asked.to d.0) bound b first second d.2 (due-at asked.to asked.table d.0 e.0 bound b second d.1 e.1 e.2)
+    run-once (run_for asked d.0) bound b first second d.2 (due-at asked d.0 e.0 bound b second d.1 e.1 e.2)
 
 -- ## At least one
 
@@ -58,5 +58,5 @@ due-some None bound b = (BadWords, refl)
 due-some (Some asked) bound b = by (table-or_fails asked.table)
   where
     by : IsTable asked.table ⊎ ((at : ℕ) × FailsAt asked.table at) → (due : Status) × IsDue (Some asked) bound b due
-    by (inl table) = let run = run-some (run_to asked.to table.0) bound b in (run.0, inr (table.0, table.1, run.1))
+    by (inl table) = let run = run-some (run_for asked table.0) bound b in (run.0, inr (table.0, table.1, run.1))
     by (inr fails) = (BadTable fails.0, inl (fails.0, fails.1, refl))

@@ -24,7 +24,7 @@ use Rattle.recode_run.specs.Pieces.{IsReady, IsWrittenOf, PutsPart, PieceEnds, P
 use Rattle.stream_recoder.proofs.Outputs.{judged-front}
 
 -- what is written up to a verdict
-pub written_of_judged : (o : Options) (s : Seen) (items : List Item) (v : Option Stopped) (written : List Written) → Recodes o s items v → AreWritten o s.units items written → IsWrittenOf o s written
+pub written_of_judged : (o : Options) (s : Seen) (items : List Item) (v : Option Stopped) (written : List Written) → Recodes o s items v → AreWritten o [] s.units items written → IsWrittenOf o s written
 written_of_judged o s items v written h e =
     let front = judged-front o [] s.units s.fault items v h in
     (front.0, front.1, items, front.2, front.3, front.4 written e)
@@ -41,7 +41,7 @@ module _ {P : Type 0} (tried : P → Tries) (step : P → List ℕ → ℕ → P
       let next = k h.first fed written h.recodes in
       let s = seen (fed ++ piece) in
       let J : Options → Type 0 = λ o. Judges o [] s.units None next.items None in
-      let W : Options → Type 0 = λ o. AreWritten o s.units next.items (written ++ waiting r1) in
+      let W : Options → Type 0 = λ o. AreWritten o [] s.units next.items (written ++ waiting r1) in
       (s.units, [], next.items, sym (append-nil s.units), subst J options next.holds.judged, subst W options next.holds.written)
 
   leaves-err : (r r1 : Recoder P) (piece : List ℕ) (e : Stopped) → RecodingStops tried step r r1 piece e → FeedLeaves r r1 piece

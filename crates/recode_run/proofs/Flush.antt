@@ -92,7 +92,7 @@ partly-of : (o : Options) (bound : ℕ) (left left' a b : Option (List ℕ)) (gi
     → length (given ++ last) ≤ bound → IsOver bound (given ++ last) over → Recodes o (seen given) items None → (all ≡ seen (given ++ last)) ⊎ ((all ≡ seen_whole (given ++ last)) × (over ≡ []) × IsAtEnd left')
     → Recodes o all read v → (out : Gains o all.units read a b) → (early : List ℕ) × (rest : List ℕ) × IsOutput o (seen given).units items early × (out.0 ≡ early ++ rest) → IsPartlyWritten o bound left left' a b
 partly-of o bound left left' a b given last over items read all v consumed short within is_over none which judged out grows =
-    let front = output-first o [] all.units all.fault read v out.0 judged out.1 in
+    let front = output-first o all.units all.fault read v out.0 judged out.1 in
     let Q : List ℕ → Type 0 = IsOutput o front.0 read in
     record {
       given = given;

@@ -1,3 +1,4 @@
+pub mod Parsing
 pub mod Puts
 pub mod Feeding
 pub mod Reading

@@ -54,15 +54,15 @@ appends-at a b xs ys e h = let P : List ℕ → Type 0 = Appends a b in subst P 
 pub record IsRead (o : Options) (fed : List ℕ) (written : List Written) : Type 0 where
   pub items : List Item
   pub judged : Recodes o (seen fed) items None
-  pub are : AreWritten o (seen fed).units items written
+  pub are : AreWritten o [] (seen fed).units items written
 
 pub read-ready : {P : Type 0} (tried : P → Tries) (step : P → List ℕ → ℕ → P → Type 0) (r : Recoder P) (o : Options) (fed : List ℕ) (written : List Written) → IsReady tried step r o fed written → IsRead o fed written
 read-ready tried step r o fed written h =
     let k = h.recodes in
     let F : Option Why → Type 0 = λ f. Judges o [] (seen fed).units f k.items None in
     let J : Options → Type 0 = λ p. Judges p [] (seen fed).units None k.items None in
-    let W : Options → Type 0 = λ p. AreWritten p (seen fed).units k.items (written ++ waiting r) in
-    let A : List Written → Type 0 = λ v. AreWritten o (seen fed).units k.items v in
+    let W : Options → Type 0 = λ p. AreWritten p [] (seen fed).units k.items (written ++ waiting r) in
+    let A : List Written → Type 0 = λ v. AreWritten o [] (seen fed).units k.items v in
     record {
       items = k.items;
       judged = subst F (sym k.sound) (subst J h.options k.holds.judged);
@@ -70,7 +70,7 @@ read-ready tried step r o fed written h =
     }
 
 -- what was put is what is written for these units
-gains : (o : Options) (us : List (List ℕ)) (items : List Item) (held held' : Option (List ℕ)) (written : List Written) → AreWritten o us items written → Appends held held' (forms written) → Gains o us items held held'
+gains : (o : Options) (us : List (List ℕ)) (items : List Item) (held held' : Option (List ℕ)) (written : List Written) → AreWritten o [] us items written → Appends held held' (forms written) → Gains o us items held held'
 gains o us items held held' written are put = (forms written, output_is o us items written are, put)
 
 -- ## How a piece ends a run

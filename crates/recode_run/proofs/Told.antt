@@ -5,7 +5,6 @@ use Rattle.std.proofs.lemmas.Bool.Decides.{nat_tests}
 use Rattle.std.proofs.lemmas.List.{append_cancel_right, take-append-drop, take-append-le}
 use Rattle.std.proofs.Math.Seq.{take-append-add}
 use Rattle.std.specs.Io.KnownBytes.{Appends, Consumes, Keeps, IsAtEnd}
-use Rattle.h264_types.specs.declared.layer.Layer.{Layer}
 use Rattle.h264_types.specs.declared.fault.Stopped.{Stopped}
 use Rattle.h264_types.specs.declared.fault.Stopped.TheVariants.{Stop as StopAt, Outside as OutsideAt, Memory as NoMemory}
 use Rattle.h264_types.specs.Units.{Seen, seen, seen_whole}
@@ -22,7 +21,7 @@ use Rattle.slice_rewrite.specs.Written.{IsOutput}
 use Rattle.stream_recoder.specs.Written.{forms}
 use Rattle.recode_run.specs.Report.{Reports}
 use Rattle.recode_run.specs.Words.{Request}
-use Rattle.recode_run.specs.Run.{run_to, Gains, RunEnds, IsPartlyWritten, EndsEarly, IsBadTable, Ran, IsNoReport, RunAnswers, judged, IsFront, StopsAt, Passes, Leaves, LeavesBy, IsTold, IsDueTo, IsDue, IsFault, IsExact, IsPromptFor, IsPrompt}
+use Rattle.recode_run.specs.Run.{run_for, Gains, RunEnds, IsPartlyWritten, EndsEarly, IsBadTable, RanAsAsked, Ran, IsNoReport, RunAnswers, judged, IsFront, StopsAt, Passes, Leaves, LeavesAsAsked, LeavesBy, IsTold, IsDueTo, IsDue, IsFault, IsExact, IsPromptFor, IsPrompt}
 use Rattle.slice_rewrite.proofs.Judging.{one-verdict, verdict-stays}
 use Rattle.stream_recoder.proofs.Outputs.{output_is, output-same, output-stays}
 use Rattle.recode_run.proofs.Reading.{appends-at}
@@ -151,10 +150,14 @@ kept_left b None h = absurd h
 kept_left b (Some c) h = ap (λ v. Some v) h
 
 -- what is left, whatever the words
+left_as_asked : (asked : Option Request) (bound : ℕ) (b : List ℕ) (left' held held' : Option (List ℕ)) (account : Account) (status : Status) → RanAsAsked asked bound (Some b) left' held held' account status → LeavesAsAsked asked bound b left' held held' status
+left_as_asked (Some asked) bound b left' held held' account status (inl h) = inl (h.0, kept_left b left' h.1, h.2)
+left_as_asked (Some asked) bound b left' held held' account status (inr h) = inr (h.0, h.1, told (run_for asked h.0) bound b left' held held' account status h.2)
+left_as_asked None bound b left' held held' account status h = (h.0, kept_left b left' h.1, h.2)
+
 left_by : (asked : Option Request) (bound : ℕ) (b : List ℕ) (left' held held' : Option (List ℕ)) (account : Account) (status : Status) → Ran asked bound (Some b) left' held held' account status → LeavesBy asked bound b left' held held' status
-left_by (Some asked) bound b left' held held' account status (inl h) = inl (h.0, kept_left b left' h.1, h.2)
-left_by (Some asked) bound b left' held held' account status (inr h) = inr (h.0, h.1, told (run_to asked.to h.0) bound b left' held held' account status h.2)
-left_by None bound b left' held held' account status h = (h.0, kept_left b left' h.1, h.2)
+left_by asked bound b left' held held' account status (inl h) = inl (h.0, kept_left b left' h.1, h.2)
+left_by asked bound b left' held held' account status (inr h) = inr (left_as_asked asked bound b left' held held' account status h)
 
 -- the answer is that of the run, or the report's
 pub answer_of : (report report' : Option (List ℕ)) (status answer : Status) (account : Account) → Reports report report' status account answer → (answer ≡ status) ⊎ IsNoReport answer
@@ -245,20 +248,24 @@ due-run o bound b left' held held' status due h d = by (leaves-due o bound b lef
     by (inr fault) = inr fault
 
 -- whatever table the text has, it is this one
-pub due-at : (layer : Layer) (text : List ℕ) (init other : InitTable) (bound : ℕ) (b : List ℕ) (due : Status) → IsTableOf text init → IsTableOf text other → IsDueTo (run_to layer other) bound b due → IsDueTo (run_to layer init) bound b due
-due-at layer text init other bound b due is also d = let P : InitTable → Type 0 = λ table. IsDueTo (run_to layer table) bound b due in subst P (one-table text other init also is) d
+pub due-at : (asked : Request) (init other : InitTable) (bound : ℕ) (b : List ℕ) (due : Status) → IsTableOf asked.table init → IsTableOf asked.table other → IsDueTo (run_for asked other) bound b due → IsDueTo (run_for asked init) bound b due
+due-at asked init other bound b due is also d = let P : InitTable → Type 0 = λ table. IsDueTo (run_for asked table) bound b due in subst P (one-table asked.table other init also is) d
 
 -- a text fails at one place
 pub bad-once : (text : List ℕ) (first second : Status) → IsBadTable text first → IsBadTable text second → first ≡ second
 bad-once text first second x y = x.2 ∙ ap (λ at. BadTable at) (fails-once text x.0 y.0 x.1 y.1) ∙ sym y.2
 
+due-asked : (asked : Option Request) (bound : ℕ) (b : List ℕ) (left' held held' : Option (List ℕ)) (status due : Status) → LeavesAsAsked asked bound b left' held held' status → IsDue asked bound b due → (status ≡ due) ⊎ IsFault status
+due-asked (Some asked) bound b left' held held' status due (inl h) (inl d) = inl (bad-once asked.table status due h.0 d)
+due-asked (Some asked) bound b left' held held' status due (inl h) (inr d) = absurd (table-stands asked.table h.0.0 (d.0, d.1) h.0.1)
+due-asked (Some asked) bound b left' held held' status due (inr h) (inl d) = absurd (table-stands asked.table d.0 (h.0, h.1) d.1)
+due-asked (Some asked) bound b left' held held' status due (inr h) (inr d) =
+    due-run (run_for asked h.0) bound b left' held held' status due h.2 (due-at asked h.0 d.0 bound b due h.1 d.1 d.2)
+due-asked None bound b left' held held' status due h d = inl (h.0 ∙ sym d)
+
 due-by : (asked : Option Request) (bound : ℕ) (b : List ℕ) (left' held held' : Option (List ℕ)) (status due : Status) → LeavesBy asked bound b left' held held' status → IsDue asked bound b due → (status ≡ due) ⊎ IsFault status
-due-by (Some asked) bound b left' held held' status due (inl h) (inl d) = inl (bad-once asked.table status due h.0 d)
-due-by (Some asked) bound b left' held held' status due (inl h) (inr d) = absurd (table-stands asked.table h.0.0 (d.0, d.1) h.0.1)
-due-by (Some asked) bound b left' held held' status due (inr h) (inl d) = absurd (table-stands asked.table d.0 (h.0, h.1) d.1)
-due-by (Some asked) bound b left' held held' status due (inr h) (inr d) =
-    due-run (run_to asked.to h.0) bound b left' held held' status due h.2 (due-at asked.to asked.table h.0 d.0 bound b due h.1 d.1 d.2)
-due-by None bound b left' held held' status due h d = inl (h.0 ∙ sym d)
+due-by asked bound b left' held held' status due (inl h) d = inr (inl h.0)
+due-by asked bound b left' held held' status due (inr h) d = due-asked asked bound b left' held held' status due h d
 
 due-answer : (status due answer : Status) → (answer ≡ status) ⊎ IsNoReport answer → (status ≡ due) ⊎ IsFault status → (answer ≡ due) ⊎ IsFault answer
 due-answer status due answer (inr e) k = inr (no-report-is-fault answer e)
@@ -308,11 +315,12 @@ unread_part o bound b left' held held' account h k =
 pub is_prompt : (asked : Option Request) (bound : ℕ) (left left' held held' report report' : Option (List ℕ)) (answer : Status) → RunAnswers asked bound left left' held held' report report' answer → IsPrompt asked left left' held held'
 is_prompt (Some asked) bound (Some b) left' held held' report report' answer h = λ init is. by init is h.2
   where
-    by : (init : InitTable) → IsTableOf asked.table init → Ran (Some asked) bound (Some b) left' held held' h.1 h.0 → IsPromptFor (run_to asked.to init) b left' held held'
-    by init is (inl unread) = unread_part (run_to asked.to init) bound b left' held held' h.1 unread.1 unread.2
-    by init is (inr ran) =
-        let P : InitTable → Type 0 = λ table. IsPromptFor (run_to asked.to table) b left' held held' in
-        subst P (one-table asked.table ran.0 init ran.1 is) (early_part (run_to asked.to ran.0) bound b left' held held' (partly (run_to asked.to ran.0) bound (Some b) left' held held' h.1 h.0 ran.2))
+    by : (init : InitTable) → IsTableOf asked.table init → Ran (Some asked) bound (Some b) left' held held' h.1 h.0 → IsPromptFor (run_for asked init) b left' held held'
+    by init is (inl without) = unread_part (run_for asked init) bound b left' held held' h.1 without.1 without.2
+    by init is (inr (inl unread)) = unread_part (run_for asked init) bound b left' held held' h.1 unread.1 unread.2
+    by init is (inr (inr ran)) =
+        let P : InitTable → Type 0 = λ table. IsPromptFor (run_for asked table) b left' held held' in
+        subst P (one-table asked.table ran.0 init ran.1 is) (early_part (run_for asked ran.0) bound b left' held held' (partly (run_for asked ran.0) bound (Some b) left' held held' h.1 h.0 ran.2))
 is_prompt (Some asked) bound None left' held held' report report' answer h = tt
 is_prompt None bound (Some b) left' held held' report report' answer h = tt
 is_prompt None bound None left' held held' report report' answer h = tt

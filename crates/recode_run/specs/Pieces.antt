@@ -29,7 +29,7 @@ pub record IsReady {P : Type 0} (tried : P → Tries) (step : P → List ℕ →
 -- this is what is written for some first units
 abbrev pub IsWrittenOf : Options → Seen → List Written → Type 0
 IsWrittenOf o s written = (units : List (List ℕ)) × (later : List (List ℕ)) × (items : List Item) × (s.units ≡ units ++ later) × Judges o [] units None items None
-    × AreWritten o units items written
+    × AreWritten o [] units items written
 
 -- the account counts these too
 abbrev pub Notes : Account → Account → List Written → Type 0
@@ -41,7 +41,7 @@ PutsPart o held held' written s = (more : List Written) × (put : List ℕ) × (
 
 -- the verdict was reached, and what is written before it was put
 abbrev pub PutsAll : Options → Option (List ℕ) → Option (List ℕ) → List Written → Seen → Stopped → Type 0
-PutsAll o held held' written s stopped = (more : List Written) × (items : List Item) × Recodes o s items (Some stopped) × AreWritten o s.units items (written ++ more)
+PutsAll o held held' written s stopped = (more : List Written) × (items : List Item) × Recodes o s items (Some stopped) × AreWritten o [] s.units items (written ++ more)
     × Appends held held' (forms more)
 
 -- A piece was fed and its units were written, up to an answer that ends the run. All was written before the piece.

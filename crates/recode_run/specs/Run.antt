@@ -1,13 +1,12 @@
 -- What a run leaves, by the bytes that its source gave and what its sinks took.
 use Rattle.std.specs.Prelude.{◌≡◌, ◌⊎◌, ℕ, ◌+◌, ◌-◌, ◌<◌, ◌≤◌, nat_le, if◌then◌else◌, List, [], ◌++◌, length, map, take, Option, Some, None}
 use Rattle.std.specs.Io.KnownBytes.{Appends, Consumes, Keeps, IsAtEnd}
-use Rattle.h264_types.specs.declared.layer.Layer.{Layer}
 use Rattle.init_table.specs.TableText.{FailsAt, IsTableOf}
 use Rattle.init_table.specs.declared.table.InitTable.{InitTable}
 use Rattle.h264_types.specs.declared.fault.Stopped.{Stopped}
 use Rattle.h264_types.specs.declared.fault.Stopped.TheVariants.{Stop as StopAt, Outside as OutsideAt}
 use Rattle.h264_types.specs.Units.{Seen, seen, seen_whole}
-use Rattle.slice_rewrite.specs.Options.{Options, whole_run}
+use Rattle.slice_rewrite.specs.Options.{Options}
 use Rattle.slice_rewrite.specs.declared.pick.Tries.TheVariants.{One}
 use Rattle.recode_run.specs.declared.account.Account.{Account}
 use Rattle.recode_run.specs.declared.status.Status.{Status}
@@ -20,9 +19,9 @@ use Rattle.recode_run.specs.Account.{account_of}
 use Rattle.recode_run.specs.Report.{Reports}
 use Rattle.recode_run.specs.Words.{Request}
 
--- what recoding to this layer with this table rests on: cabac_init_idc is 0 where it stands
-abbrev pub run_to : Layer → InitTable → Options
-run_to layer init = whole_run layer init (One 0)
+-- what the run that is asked for rests on, with this table of initial pairs
+abbrev pub run_for : Request → InitTable → Options
+run_for asked init = record { to = asked.to; init = init; tries = One asked.idc; range = asked.range }
 
 -- what is written for these units was written
 abbrev pub Gains : Options → List (List ℕ) → List Item → Option (List ℕ) → Option (List ℕ) → Type 0
@@ -81,7 +80,7 @@ abbrev pub RunEnds : Options → ℕ → Option (List ℕ) → Option (List ℕ)
 RunEnds o bound left left' held held' account Done =
     (given : List ℕ) × (items : List Item) × Consumes left left' given × IsAtEnd left' × (length given ≤ bound)
     × Recodes o (seen_whole given) items None
-    × ((written : List Written) × AreWritten o (seen_whole given).units items written × Appends held held' (forms written) × (account ≡ account_of (length given) (map (λ w. w.event) written)))
+    × ((written : List Written) × AreWritten o [] (seen_whole given).units items written × Appends held held' (forms written) × (account ≡ account_of (length given) (map (λ w. w.event) written)))
 RunEnds o bound left left' held held' account (Outside unit why) = EndsEarly o bound left left' held held' (OutsideAt unit why)
 RunEnds o bound left left' held held' account (Stop case place) = EndsEarly o bound left left' held held' (StopAt case place)
 RunEnds o bound left left' held held' account TooMuch =
@@ -98,13 +97,17 @@ RunEnds o bound left left' held held' account _ = ⊥
 abbrev pub IsBadTable : List ℕ → Status → Type 0
 IsBadTable text status = (at : ℕ) × FailsAt text at × (status ≡ BadTable at)
 
--- How a run ended before its report: with words that ask for nothing, or a text that is no table's, it reads and writes
--- nothing.
-abbrev pub Ran : Option Request → ℕ → Option (List ℕ) → Option (List ℕ) → Option (List ℕ) → Option (List ℕ) → Account → Status → Type 0
-Ran (Some asked) bound left left' held held' account status =
+-- How a run ended whose words were read: where they ask for nothing, or their text is no table's, it reads and writes nothing.
+abbrev pub RanAsAsked : Option Request → ℕ → Option (List ℕ) → Option (List ℕ) → Option (List ℕ) → Option (List ℕ) → Account → Status → Type 0
+RanAsAsked (Some asked) bound left left' held held' account status =
     (IsBadTable asked.table status × Keeps left left' × Keeps held held')
-    ⊎ ((init : InitTable) × IsTableOf asked.table init × RunEnds (run_to asked.to init) bound left left' held held' account status)
-Ran None bound left left' held held' account status = (status ≡ BadWords) × Keeps left left' × Keeps held held'
+    ⊎ ((init : InitTable) × IsTableOf asked.table init × RunEnds (run_for asked init) bound left left' held held' account status)
+RanAsAsked None bound left left' held held' account status = (status ≡ BadWords) × Keeps left left' × Keeps held held'
+
+-- How a run ended before its report: without memory for reading its words it reads and writes nothing.
+abbrev pub Ran : Option Request → ℕ → Option (List ℕ) → Option (List ℕ) → Option (List ℕ) → Option (List ℕ) → Account → Status → Type 0
+Ran asked bound left left' held held' account status =
+    ((status ≡ Memory) × Keeps left left' × Keeps held held') ⊎ RanAsAsked asked bound left left' held held' account status
 
 -- the answer replaces what ended the run, since the report failed or there was no memory for it
 abbrev pub IsNoReport : Status → Type 0
@@ -145,12 +148,17 @@ Leaves o bound b left' held held' WriteFault = (more : List ℕ) × Appends held
 Leaves o bound b left' held held' Memory = (more : List ℕ) × Appends held held' more × IsFront o (judged bound b) more
 Leaves o bound b left' held held' _ = ⊥
 
--- the same of any words
-abbrev pub LeavesBy : Option Request → ℕ → List ℕ → Option (List ℕ) → Option (List ℕ) → Option (List ℕ) → Status → Type 0
-LeavesBy (Some asked) bound b left' held held' status =
+-- the same of any words that were read
+abbrev pub LeavesAsAsked : Option Request → ℕ → List ℕ → Option (List ℕ) → Option (List ℕ) → Option (List ℕ) → Status → Type 0
+LeavesAsAsked (Some asked) bound b left' held held' status =
     (IsBadTable asked.table status × (left' ≡ Some b) × Keeps held held')
-    ⊎ ((init : InitTable) × IsTableOf asked.table init × Leaves (run_to asked.to init) bound b left' held held' status)
-LeavesBy None bound b left' held held' status = (status ≡ BadWords) × (left' ≡ Some b) × Keeps held held'
+    ⊎ ((init : InitTable) × IsTableOf asked.table init × Leaves (run_for asked init) bound b left' held held' status)
+LeavesAsAsked None bound b left' held held' status = (status ≡ BadWords) × (left' ≡ Some b) × Keeps held held'
+
+-- and of all words, where memory for reading them may be wanting
+abbrev pub LeavesBy : Option Request → ℕ → List ℕ → Option (List ℕ) → Option (List ℕ) → Option (List ℕ) → Status → Type 0
+LeavesBy asked bound b left' held held' status =
+    ((status ≡ Memory) × (left' ≡ Some b) × Keeps held held') ⊎ LeavesAsAsked asked bound b left' held held' status
 
 -- What is left where the source tells its bytes: an answer that replaces another leaves what that one leaves.
 abbrev pub IsTold : Option Request → ℕ → Option (List ℕ) → Option (List ℕ) → Option (List ℕ) → Option (List ℕ) → Status → Type 0
@@ -170,7 +178,7 @@ IsDueTo o bound b _ = ⊥
 
 -- the same of any words
 abbrev pub IsDue : Option Request → ℕ → List ℕ → Status → Type 0
-IsDue (Some asked) bound b status = IsBadTable asked.table status ⊎ ((init : InitTable) × IsTableOf asked.table init × IsDueTo (run_to asked.to init) bound b status)
+IsDue (Some asked) bound b status = IsBadTable asked.table status ⊎ ((init : InitTable) × IsTableOf asked.table init × IsDueTo (run_for asked init) bound b status)
 IsDue None bound b status = status ≡ BadWords
 
 -- want of memory, or a fault of an end
@@ -192,5 +200,5 @@ IsPromptFor o b left' held held' = (taken : List ℕ) (rest : List ℕ) → b �
     (items : List Item) (verdict : Option Stopped) → Recodes o early items verdict → (bytes : List ℕ) × (more : List ℕ) × IsOutput o early.units items bytes × Appends held held' (bytes ++ more)
 
 abbrev pub IsPrompt : Option Request → Option (List ℕ) → Option (List ℕ) → Option (List ℕ) → Option (List ℕ) → Type 0
-IsPrompt (Some asked) (Some b) left' held held' = (init : InitTable) → IsTableOf asked.table init → IsPromptFor (run_to asked.to init) b left' held held'
+IsPrompt (Some asked) (Some b) left' held held' = (init : InitTable) → IsTableOf asked.table init → IsPromptFor (run_for asked init) b left' held held'
 IsPrompt _ _ left' held held' = Unit {0}

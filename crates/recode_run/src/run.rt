@@ -5,20 +5,19 @@ ghost use Rattle.unit_io.specs.Faults.{Rose, HasCause, HasSinkCause};
 ghost use Rattle.h264_types.specs.Units.{seen};
 ghost use Rattle.recode_run.specs.declared.account.Account.{Account};
 ghost use Rattle.recode_run.specs.Account.{account_of};
-ghost use Rattle.std.specs.Option.{option_map};
 ghost use Rattle.recode_run.specs.Words.{request_of, words_of};
 ghost use Rattle.stream_recoder.specs.Written.{Written, forms};
 ghost use Rattle.stream_recoder.specs.Recoder.{waiting, HasRecoded, options_of};
 ghost use Rattle.recode_run.specs.Pieces.{IsReady, PieceDone, PieceEnds, Notes, ReadsSome, status_of_fault, status_of_stop};
 ghost use Rattle.recode_run.specs.Headline.{IsHeadline};
-ghost use Rattle.recode_run.specs.Run.{run_to, RunEnds, Ran, RunAnswers, IsTold, IsExact, IsPrompt};
+ghost use Rattle.recode_run.specs.Run.{run_for, RunEnds, Ran, RunAnswers, IsTold, IsExact, IsPrompt};
 ghost use Rattle.recode_run.specs.Report.{TakesPart};
 
 use crate::account::Account;
 use crate::report::write_report;
 use crate::status::Status;
-use crate::words::{Asked, read_words};
-use h264_types::{Layer, Stopped};
+use crate::words::{Asked, WordsFault, read_words};
+use h264_types::Stopped;
 use init_table::{BadTable, InitTable};
 use slice_rewrite::{FixedInit, InitPick, Plan};
 use std::alloc::Global;
@@ -35,7 +34,7 @@ const PIECE: usize = 65_536;
 /// Runs the program with these words, without the name of the program: reads the source to its end, and writes the
 /// stream in the wanted form to `out` and a line on how the run ended to `report`.
 ///
-/// With other words, or a text that is no table's, nothing is read, and `out` is left alone.
+/// With words that ask for nothing, or a text that is no table's, nothing is read, and `out` is left alone.
 /// Each unit is written as soon as its end was read. A source of more than 2^40 bytes is too much.
 pub fn run<S: Source, K: Sink, E: Sink>(
     alloc: Global,
@@ -82,15 +81,15 @@ pub fn run_within<S: Source, K: Sink, E: Sink>(
     // No unit is noted to the taps yet.
     let _ = taps;
     let mut account = Account::new();
-    let status = recode_to(alloc, read_words(words), src, out, bound, &mut account);
+    let status = recode_asked(alloc, words, src, out, bound, &mut account);
     write_report(alloc, status, &account, report)
 }
 
-// Recodes a source to a layer, if the words ask for one and their text is a table's. It has to be one in every run, for a
+// Recodes a source as the words ask, if they ask for a run and their text is a table's. It has to be one in every run, for a
 // stream without a slice in CABAC too: whether a call is right doesn't rest on its input.
-fn recode_to<S: Source, K: Sink>(
+fn recode_asked<S: Source, K: Sink>(
     alloc: Global,
-    asked: Option<Asked<'_>>,
+    words: &[String],
     src: &mut S,
     out: &mut K,
     bound: u64,
@@ -98,37 +97,43 @@ fn recode_to<S: Source, K: Sink>(
 ) -> Status
     requires bounded { bound ≤ 2 ^ 40 }
     requires none { account.old ≡ account_of 0 [] }
-    ensures ran { Ran (option_map request_of asked.entry) bound (S.left src.old) (S.left src.new) (K.held out.old) (K.held out.new) account.new result }
+    ensures ran { Ran (words_of (map (λ word. string_bytes word) words.now)) bound (S.left src.old) (S.left src.new) (K.held out.old) (K.held out.new) account.new result }
     ensures read { result ≡ Status.ReadFault → Rose (S.faults src.old) (S.faults src.new) }
     ensures write { result ≡ Status.WriteFault → Rose (K.faults out.old) (K.faults out.new) }
 {
-    let Some(Asked { to, table }) = asked else {
-        return Status::BadWords;
+    let asked = match read_words(alloc, words) {
+        Ok(asked) => asked,
+        Err(WordsFault::Bad) => return Status::BadWords,
+        Err(WordsFault::Memory) => return Status::Memory,
     };
-    match InitTable::of(table) {
-        Ok(init) => recode(alloc, to, init, src, out, bound, account),
+    match InitTable::of(asked.table) {
+        Ok(init) => recode(alloc, asked, init, src, out, bound, account),
         Err(BadTable { at }) => Status::BadTable { at },
     }
 }
 
-// Recodes a source to a sink, and flushes the sink.
+// Recodes a source to a sink as it is asked, and flushes the sink.
 fn recode<S: Source, K: Sink>(
     alloc: Global,
-    to: Layer,
+    asked: Asked<'_>,
     init: InitTable,
     src: &mut S,
     out: &mut K,
     bound: u64,
     account: &mut Account,
 ) -> Status
+    requires tried { asked.idc < 3 }
     requires bounded { bound ≤ 2 ^ 40 }
     requires none { account.old ≡ account_of 0 [] }
-    ensures ends { RunEnds (run_to to init) bound (S.left src.old) (S.left src.new) (K.held out.old) (K.held out.new) account.new result }
+    ensures ends { RunEnds (run_for (request_of asked.entry) init) bound (S.left src.old) (S.left src.new) (K.held out.old) (K.held out.new) account.new result }
     ensures read { result ≡ Status.ReadFault → Rose (S.faults src.old) (S.faults src.new) }
     ensures write { result ≡ Status.WriteFault → Rose (K.faults out.old) (K.faults out.new) }
 {
-    let plan = Plan { to, range: None };
-    let Ok(mut recoder) = Recoder::new(alloc, plan, init, FixedInit(0)) else {
+    let plan = Plan {
+        to: asked.to,
+        range: asked.range,
+    };
+    let Ok(mut recoder) = Recoder::new(alloc, plan, init, FixedInit(asked.idc)) else {
         return Status::Memory;
     };
     let status = recode_all(&mut recoder, src, out, bound, account);
