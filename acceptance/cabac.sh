@@ -8,7 +8,7 @@ python3 "$scripts/table.py" >"$room/table" 2>"$room/found" || {
 }
 table=$(cat "$room/table")
 normal=$room/normal.264 there=$room/there.264 again=$room/again.264 back=$room/back.264 coded=$room/coded.264
-cleared=0
+numbers=0 cleared=0
 openh264=yes
 python3 "$scripts/openh264.py" || {
     openh264=
@@ -27,13 +27,17 @@ unlike() {
     ! cmp -s "$1" "$2" || { echo "$3"; return 1; }
 }
 
-# there_and_back: the stream, of CAVLC, goes to CABAC with the same frames and back to its normal form, and what is written is
-# written again as it stands
+# there_and_back: the stream, of CAVLC, goes to CABAC under each of $numbers as cabac_init_idc with the same frames and back to
+# its normal form, and what is written is written again as it stands
 there_and_back() {
-    runs cavlc "$in" "$normal" && runs cabac "$in" "$there" && shows "$in" "$there" &&
-        unlike "$normal" "$there" "CAVLC is written where CABAC is wanted" &&
-        runs cabac "$there" "$again" && alike "$there" "$again" "from CABAC to CABAC it becomes another stream" &&
-        runs cavlc "$there" "$back" && alike "$normal" "$back" "back from CABAC it is another stream"
+    local init=
+    runs cavlc "$in" "$normal" || return
+    for init in $numbers; do
+        runs cabac "$in" "$there" && shows "$in" "$there" &&
+            unlike "$normal" "$there" "CAVLC is written where CABAC is wanted" &&
+            runs cabac "$there" "$again" && alike "$there" "$again" "from CABAC to CABAC it becomes another stream" &&
+            runs cavlc "$there" "$back" && alike "$normal" "$back" "back from CABAC it is another stream" || return
+    done
 }
 
 # back_and_there: the stream, of CABAC, goes to CAVLC with the frames of what the encoder wrote, and back to its normal form,
