@@ -83,16 +83,21 @@ fn blocks_below_the_pair_above(rt: HostRuntime) -> Result<(), Fail> {
     Ok(())
 }
 
-/// In rows of two pairs: the flags of four pairs, and which of them is skipped: its flag is inferred.
-static INFERRED: [([bool; 4], usize); 5] = [
+/// In rows of two pairs, behind so many macroblocks of other slices: the flags of four pairs, and which of them is skipped: its
+/// flag is inferred.
+static INFERRED: [(u32, [bool; 4], usize); 8] = [
     // a field pair to the left and a frame pair above; the other way round
-    ([false, false, true, true], 3),
-    ([true, true, false, false], 3),
+    (0, [false, false, true, true], 3),
+    (0, [true, true, false, false], 3),
     // no pair to the left, and a field pair above; a frame pair above
-    ([true, false, true, false], 2),
-    ([false, true, false, true], 2),
+    (0, [true, false, true, false], 2),
+    (0, [false, true, false, true], 2),
     // neither
-    ([false, true, true, true], 0),
+    (0, [false, true, true, true], 0),
+    // the pair to the left is one of another slice; that above is; a field pair to the left, and a frame pair above
+    (2, [false, true, true, true], 0),
+    (2, [true, false, true, true], 1),
+    (2, [false, true, true, false], 2),
 ];
 
 /// A macroblock of P_L0_16x16.
@@ -116,17 +121,18 @@ fn with_skipped(flags: &[bool; 4], pair: usize, flag: bool) -> [Mb; 8]
 
 #[test]
 fn flags_of_skipped_pairs(rt: HostRuntime) -> Result<(), Fail> {
-    let shape = shape(2, 0, true);
-    assert!(rt; shape.is_shape());
-    for (flags, pair) in &INFERRED {
+    for (first, flags, pair) in &INFERRED {
+        assert!(rt; *first <= 2);
         assert!(rt; *pair < 4);
+        let shape = shape(2, *first, true);
+        assert!(rt; shape.is_shape());
         let flag = flags[*pair];
         let mbs = with_skipped(flags, *pair, flag);
         assert!(rt; valid(&shape, &mbs));
         assert!(rt; !valid(&shape, &with_skipped(flags, *pair, !flag)));
         let done = rows_of(rt.alloc(), &shape, &mbs[..2 * *pair])?;
         let pairs = done.count() / 2;
-        assert!(rt; pairs < 8);
+        assert!(rt; pairs < 7);
         assert!(rt; inferred_flag(&shape, &done, pairs) == flag);
     }
     Ok(())
