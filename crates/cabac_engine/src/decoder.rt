@@ -102,10 +102,9 @@ impl<B: BitSource> Decoder<B> {
             self.range = 0;
             return None;
         }
-        if self.offset.is_below(self.range) {
+        if self.offset.wrap(self.range) {
             return Some(false);
         }
-        self.offset.lower(self.range);
         Some(true)
     }
 

@@ -1,4 +1,4 @@
-ghost use Rattle.std.specs.Prelude.{◌≡◌, ◌+◌, ◌-◌, ◌*◌, ◌^◌, ◌<◌, ◌≤◌, ◌++◌, min, length, MatchBool};
+ghost use Rattle.std.specs.Prelude.{true, false, ◌≡◌, ◌+◌, ◌-◌, ◌*◌, ◌^◌, ◌<◌, ◌≤◌, ◌++◌, min, length, MatchBool};
 ghost use Rattle.cabac_engine.specs.OffsetBits.{Doubles};
 
 use exp_golomb::BitSource;
@@ -68,6 +68,19 @@ impl<B: BitSource> OffsetBits<B> {
         ensures { self.new ≡ record { offset = self.old.offset - by; ready = self.old.ready; taken = self.old.taken; left = self.old.left } }
     {
         self.value -= u64::from(by) << self.ready;
+    }
+
+    /// Lowers the offset by a range that isn't above it, and answers whether the offset was below. There is no branch on that,
+    /// since a bypass bin can't be predicted.
+    #[inline(always)]
+    pub(crate) fn wrap(&mut self, range: u16) -> bool
+        requires { range < 512 }
+        ensures below { result ≡ true → (self.old.offset < range) × (self.new ≡ self.old) }
+        ensures above { result ≡ false → (range ≤ self.old.offset) × (self.new ≡ record { offset = self.old.offset - range; ready = self.old.ready; taken = self.old.taken; left = self.old.left }) }
+    {
+        let is_below = self.is_below(range);
+        self.lower(if is_below { 0 } else { range });
+        is_below
     }
 
     /// Takes bits into the offset; false where fewer are left.

@@ -1,7 +1,7 @@
 -- The marks and the levels of a block, place by place.
-use Rattle.std.proofs.Common.{◌≡◌, ℕ, zero, suc, ◌+◌, ◌-◌, ◌<◌, ◌≤◌, ℤ, pos, negsuc, unsigned_abs, cond, ltb, Bool, true, false, List, [], ◌∷◌, ◌++◌, length, reverse, take, drop, replicate, get_or, set, eqb, ◌≢◌, Option, Some, None, refl, sym, ap, subst, ◌∙◌, arith}
+use Rattle.std.proofs.Common.{◌≡◌, ℕ, zero, suc, ◌+◌, ◌-◌, ◌<◌, ◌≤◌, ℤ, pos, negsuc, unsigned_abs, cond, ltb, Bool, true, false, List, [], ◌∷◌, ◌++◌, length, reverse, drop, replicate, get_or, eqb, ◌≢◌, Option, Some, None, refl, sym, ap, subst, ◌∙◌, arith}
 use Rattle.std.proofs.lemmas.Bool.{lt-ltb, le-ltb}
-use Rattle.std.proofs.lemmas.List.{length-reverse, reverse-append, take_more, drop-set, drop-replicate}
+use Rattle.std.proofs.lemmas.List.{reverse-append}
 use Rattle.std.proofs.lemmas.Bool.Decides.{nat_tests}
 use Rattle.std.proofs.Math.Seq.{drop-cons}
 use Rattle.cabac_engine.specs.Bins.{Slot, in_context}
@@ -82,8 +82,12 @@ pub writes_mark : {S : Type 0} (step : S → Slot → Bool → S → Type 0) (ca
 unfolding mark
 writes_mark step cat field place ctx ctx2 one last s m t e f e2 took took2 = rw f (true, m, rw (e, f) at took, (last, t, rw e2 at took2, (refl, refl)))
 
-pub reverse-push : (marks : List Bool) (one : Bool) → reverse (marks ++ one ∷ []) ≡ one ∷ reverse marks
-reverse-push marks one = reverse-append marks (one ∷ [])
+pub mark_none : {S : Type 0} (step : S → Slot → Option Bool → S → Type 0) (cat : ℕ) (field : Bool) (place ctx : ℕ) (s t : S) → ctx ≡ significance_context cat field place → step s (in_context ctx) None t → Reads step (mark cat field place) None s t
+unfolding mark
+mark_none step cat field place ctx s t e took = (None, t, rw e at took, (refl, refl))
+
+pub reverse-push : {A : Type 0} (xs : List A) (x : A) → reverse (xs ++ x ∷ []) ≡ x ∷ reverse xs
+reverse-push xs x = reverse-append xs (x ∷ [])
 
 -- ---- the levels
 
@@ -112,26 +116,6 @@ pub writes_levels_end : {S : Type 0} (step : S → Slot → Bool → S → Type 
 unfolding levels_before
 writes_levels_end step cat counts levels s = (refl, refl)
 
--- ---- lists
-
-pub take_last : (marks : List Bool) (at : ℕ) (d : Bool) → at < length marks → reverse (take (at + 1) marks) ≡ get_or marks at d ∷ reverse (take at marks)
-take_last marks at d h = ap reverse (take_more marks at d h) ∙ reverse-append (take at marks) (get_or marks at d ∷ [])
-
--- one place down, in reading
-pub read_down : {S : Type 0} (step : S → Slot → Option Bool → S → Type 0) (cat : ℕ) (counts next : Counts) (levels : List ℤ) (marks : List Bool) (at before : ℕ) (d : Bool) (value : ℤ) (result : Option (List ℤ)) (s m t : S)
-    → before ≡ at + 1 → at < length marks → at < length levels → next ≡ after counts value → Reads step (level_at cat counts (get_or marks at d)) (Some value) s m
-    → Reads step (levels_before cat next (drop at (set levels at value)) (reverse (take at marks))) result m t
-    → Reads step (levels_before cat counts (drop before levels) (reverse (take before marks))) result s t
-read_down step cat counts next levels marks at before d value result s m t b h k e first others =
-    rw (b, take_last marks at d h)
-    (reads_level step cat counts next (drop (at + 1) levels) (get_or marks at d) (reverse (take at marks)) value result s m t e first (rw (drop-set levels at value k) at others))
-
-pub read_down_none : {S : Type 0} (step : S → Slot → Option Bool → S → Type 0) (cat : ℕ) (counts : Counts) (levels : List ℤ) (marks : List Bool) (at before : ℕ) (d : Bool) (s t : S)
-    → before ≡ at + 1 → at < length marks → Reads step (level_at cat counts (get_or marks at d)) None s t
-    → Reads step (levels_before cat counts (drop before levels) (reverse (take before marks))) None s t
-read_down_none step cat counts levels marks at before d s t b h first =
-    rw (b, take_last marks at d h) (reads_no_level step cat counts (drop (at + 1) levels) (get_or marks at d) (reverse (take at marks)) s t first)
-
 -- one place down, in writing
 pub write_down : {S : Type 0} (step : S → Slot → Bool → S → Type 0) (cat : ℕ) (counts next : Counts) (levels : List ℤ) (at before : ℕ) (value : ℤ) (all : List ℤ) (s m t : S)
     → before ≡ at + 1 → at < length levels → value ≡ get_or levels at (pos 0) → next ≡ after counts value → Writes step (level_at cat counts (is_nonzero value)) value s m
@@ -157,11 +141,11 @@ length-marks_of (suc count) levels = ap suc (length-marks_of count levels)
 pub behind_marks : ℕ → ℕ → List Bool → BinString (List ℤ)
 behind_marks cat max marks = levels_before cat no_levels (replicate (max - length marks) (pos 0)) marks
 
-pub reads_coded : {S : Type 0} (step : S → Slot → Option Bool → S → Type 0) (cat : ℕ) (field : Bool) (max : ℕ) (marks : List Bool) (zeros : List ℤ) (result : Option (List ℤ)) (s m t : S)
-    → zeros ≡ replicate max (pos 0) → Reads step (marks_from cat field [] 0 (max - 1)) (Some (reverse marks)) s m → Reads step (levels_before cat no_levels (drop (length marks) zeros) (reverse marks)) result m t → Reads step (coded cat field max) result s t
+pub reads_coded : {S : Type 0} (step : S → Slot → Option Bool → S → Type 0) (cat : ℕ) (field : Bool) (max : ℕ) (marks : List Bool) (behind : List ℤ) (result : Option (List ℤ)) (s m t : S)
+    → behind ≡ replicate (max - length marks) (pos 0) → Reads step (marks_from cat field [] 0 (max - 1)) (Some marks) s m → Reads step (levels_before cat no_levels behind marks) result m t → Reads step (coded cat field max) result s t
 unfolding coded behind_marks
-reads_coded step cat field max marks zeros result s m t e first others =
-    reads_then step (marks_from cat field [] 0 (max - 1)) (behind_marks cat max) (reverse marks) result s m t first (rw (e, drop-replicate (length marks) max (pos 0), ← length-reverse marks) at others)
+reads_coded step cat field max marks behind result s m t e first others =
+    reads_then step (marks_from cat field [] 0 (max - 1)) (behind_marks cat max) marks result s m t first (rw e at others)
 
 pub reads_no_marks : {S : Type 0} (step : S → Slot → Option Bool → S → Type 0) (cat : ℕ) (field : Bool) (max : ℕ) (s t : S) → Reads step (marks_from cat field [] 0 (max - 1)) None s t → Reads step (coded cat field max) None s t
 unfolding coded behind_marks

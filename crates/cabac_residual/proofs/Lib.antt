@@ -2,3 +2,4 @@ pub mod Blocks
 pub mod OneString
 pub mod BlockLevels
 pub mod BlockBins
+pub mod Places

@@ -1,5 +1,5 @@
 -- residual_block_cabac (7.3.5.3.3), as a string of bins.
-use Rattle.std.specs.Prelude.{ℕ, zero, suc, ◌+◌, ◌-◌, ◌≤◌, ◌==◌, nat_lt, ℤ, pos, unsigned_abs, Bool, true, false, List, [], ◌∷◌, length, replicate, slice_index_or, if◌then◌else◌}
+use Rattle.std.specs.Prelude.{⊤, ℕ, zero, suc, ◌+◌, ◌-◌, ◌<◌, ◌≤◌, ◌==◌, nat_lt, ℤ, pos, unsigned_abs, Bool, true, false, List, [], ◌∷◌, ◌++◌, length, replicate, slice_index_or, if◌then◌else◌}
 use Rattle.std.specs.List.{AllByRecursion}
 use Rattle.cabac_engine.specs.Bins.{in_context}
 use Rattle.binarisation.specs.BinString.{BinString, Value, Next, ◌>>=◌}
@@ -47,6 +47,21 @@ unfoldable pub marks_from : ℕ → Bool → List Bool → ℕ → ℕ → BinSt
 marks_from cat field before place zero = Value (true ∷ before)
 marks_from cat field before place (suc more) =
     mark cat field place >>= (λ m. if m.1 then Value (m.0 ∷ before) else marks_from cat field (m.0 ∷ before) (place + 1) more)
+
+-- The marks of the places below n, the last one first, where the places of a list, the last one first, are significant; and
+-- where the marks begin.
+unfoldable pub marks_below : ℕ → List ℕ → List Bool
+marks_below n [] = replicate n false
+marks_below n (place ∷ places) = replicate (n - (place + 1)) false ++ (true ∷ marks_below place places)
+
+unfoldable pub behind_last : List ℕ → ℕ
+behind_last [] = 0
+behind_last (place ∷ places) = place + 1
+
+-- Each place of a list is below the one in front of it, and the first one below n.
+unfoldable pub AreBelow : ℕ → List ℕ → Type 0
+AreBelow n [] = ⊤
+AreBelow n (place ∷ places) = (place < n) × AreBelow place places
 
 -- the levels of a block in which one is other than 0
 unfoldable pub coded : ℕ → Bool → ℕ → BinString (List ℤ)

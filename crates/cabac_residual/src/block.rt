@@ -1,12 +1,12 @@
 ghost use Rattle.std.specs.Prelude.{◌≡◌, ◌<◌, ◌≤◌, ◌-◌, ◌+◌, length, drop, reverse, replicate, pos, slice_index_or, IfSome, IfNone, option_map, unsigned_abs, false, true, OnOk, OnSome, OnErr};
 ghost use Rattle.std.specs.List.{AllByRecursion};
 ghost use Rattle.binarisation.specs.BinString.{Reads, Writes};
-ghost use Rattle.cabac_residual.specs.Block.{is_nonzero, no_levels, levels_before, coded, block, marks_of, AreLevels};
+ghost use Rattle.cabac_residual.specs.Block.{is_nonzero, no_levels, levels_before, coded, block, marks_below, behind_last, AreBelow, marks_of, AreLevels};
 ghost use Rattle.cabac_residual.specs.Contexts.{IsShape};
 
 use crate::contexts::flag_context;
-use crate::level::{Counts, after, read_level_at, write_level_at};
-use crate::marks::{read_marks, write_marks};
+use crate::level::{Counts, after, read_level, write_level_at};
+use crate::marks::{read_places, write_marks};
 use cabac_engine::{BinSink, BinSource};
 use h264_types::Levels;
 use std::alloc::AllocError as Memory;
@@ -21,22 +21,23 @@ fn clear(levels: &mut [i32])
     levels.fill(0);
 }
 
-/// Reads the levels of the places with these marks, from the last one down.
+/// Reads the levels of the significant places, from the last one down, where all levels are 0.
 #[inline(always)]
-fn read_marked<S: BinSource>(s: &mut S, cat: u8, marks: &[bool], levels: &mut [i32]) -> Option<()>
+fn read_at_places<S: BinSource>(s: &mut S, cat: u8, places: &[u8], levels: &mut [i32]) -> Option<()>
     requires going { S.over s.old ≡ false }
     requires cat { cat < 6 }
-    requires few { length marks.now ≤ length levels.old }
-    requires most { length levels.old ≤ 64 }
-    ensures reads { Reads S.step (levels_before cat no_levels (drop (length marks.now) levels.old) (reverse marks.now)) (option_map (λ _. levels.new) result) s.old s.new }
+    requires below { AreBelow (length levels.old) (reverse places.now) }
+    requires few { length places.now ≤ 64 }
+    requires clear { levels.old ≡ replicate (length levels.old) (pos 0) }
+    ensures reads { Reads S.step (levels_before cat no_levels (drop (behind_last (reverse places.now)) levels.old) (marks_below (behind_last (reverse places.now)) (reverse places.now))) (option_map (λ _. levels.new) result) s.old s.new }
     ensures going { OnSome result (S.over s.new ≡ false) }
 {
     let mut counts = NO_LEVELS;
-    let mut at = marks.len();
+    let mut at = places.len();
     while at > 0 {
         at -= 1;
-        let level = read_level_at(s, cat, counts, marks[at])?;
-        levels[at] = level;
+        let level = read_level(s, cat, counts)?;
+        levels[usize::from(places[at])] = level;
         counts = after(counts, level);
     }
     Some(())
@@ -50,9 +51,9 @@ fn read_coded<S: BinSource>(s: &mut S, cat: u8, field: bool, levels: &mut [i32])
     ensures reads { Reads S.step (coded cat field (length levels.old)) (option_map (λ _. levels.new) result) s.old s.new }
     ensures going { OnSome result (S.over s.new ≡ false) }
 {
-    let marks = read_marks(s, cat, field, levels.len() as u8)?;
+    let places = read_places(s, cat, field, levels.len() as u8)?;
     clear(levels);
-    read_marked(s, cat, marks.as_slice(), levels)
+    read_at_places(s, cat, places.as_slice(), levels)
 }
 
 /// Reads a residual block of as many levels as the list that is lent has, into that list. `cat` is ctxBlockCat, and

@@ -56,7 +56,7 @@ fn level_contexts(cat: u8, counts: Counts) -> [u16; 5]
 
 /// Reads a level other than 0.
 #[inline(always)]
-fn read_level<S: BinSource>(s: &mut S, cat: u8, counts: Counts) -> Option<i32>
+pub fn read_level<S: BinSource>(s: &mut S, cat: u8, counts: Counts) -> Option<i32>
     requires going { S.over s.old ≡ false }
     requires cat { cat < 6 }
     requires counts { counts.ones + counts.above < 255 }
@@ -82,28 +82,6 @@ fn write_level<S: BinSink>(s: &mut S, cat: u8, counts: Counts, value: i32) -> Re
     let magnitude = value.unsigned_abs();
     write_ueg(s, &level_contexts(cat, counts), 14, 0, 16, magnitude - 1)?;
     write_signed(s, magnitude, 65535, value < 0)
-}
-
-/// Reads the level at a place, which is 0 where the place isn't significant.
-#[tactic(auto, unfolding(crate::specs::Block::level_at))]
-#[inline(always)]
-pub fn read_level_at<S: BinSource>(
-    s: &mut S,
-    cat: u8,
-    counts: Counts,
-    is_significant: bool,
-) -> Option<i32>
-    requires going { S.over s.old ≡ false }
-    requires cat { cat < 6 }
-    requires counts { counts.ones + counts.above < 255 }
-    ensures reads { Reads S.step (level_at cat counts is_significant) result s.old s.new }
-    ensures going { OnSome result (S.over s.new ≡ false) }
-{
-    if is_significant {
-        read_level(s, cat, counts)
-    } else {
-        Some(0)
-    }
 }
 
 /// Writes the level at a place, which has no bins where it is 0.

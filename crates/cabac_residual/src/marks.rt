@@ -1,7 +1,6 @@
 ghost use Rattle.std.specs.Prelude.{◌≡◌, ◌⊎◌, ◌<◌, ◌≤◌, ◌+◌, ◌-◌, [], length, slice_index_or, pos, reverse, option_map, Bool, false, true, OnOk, OnSome, IfSome, OnErr};
-ghost use Rattle.arrayvec.specs.ArrayVec.{array_vec_len};
 ghost use Rattle.binarisation.specs.BinString.{Reads, Writes};
-ghost use Rattle.cabac_residual.specs.Block.{is_nonzero, mark, marks_from, marks_of};
+ghost use Rattle.cabac_residual.specs.Block.{is_nonzero, mark, marks_from, marks_below, behind_last, AreBelow, marks_of};
 ghost use Rattle.cabac_residual.specs.Contexts.{IsShape};
 
 use crate::contexts::{last_context, significance_context};
@@ -9,26 +8,8 @@ use arrayvec::ArrayVec;
 use cabac_engine::{BinSink, BinSource};
 use std::alloc::AllocError as Memory;
 
-/// Whether each place of a block is significant, up to the last one that is.
-pub type Marks = ArrayVec<bool, 64>;
-
-/// Reads whether a place is significant, and whether it is the last one.
-#[tactic(auto, unfolding(crate::specs::Block::mark))]
-#[inline(always)]
-fn read_mark<S: BinSource>(s: &mut S, cat: u8, field: bool, place: u8) -> Option<(bool, bool)>
-    requires going { S.over s.old ≡ false }
-    requires cat { cat < 6 }
-    requires place { place < 63 }
-    requires few { (cat ≡ 5) ⊎ (place < 15) }
-    ensures reads { Reads S.step (mark cat field place) result s.old s.new }
-    ensures going { OnSome result (S.over s.new ≡ false) }
-{
-    if !s.bin(significance_context(cat, field, place))? {
-        return Some((false, false));
-    }
-    let is_last = s.bin(last_context(cat, field, place))?;
-    Some((true, is_last))
-}
+/// The significant places of a block, in scan order.
+pub type Places = ArrayVec<u8, 64>;
 
 /// Writes whether a place is significant, and where it is, whether it is the last one.
 #[tactic(auto, unfolding(crate::specs::Block::mark))]
@@ -59,23 +40,27 @@ fn write_mark<S: BinSink>(
 
 /// Reads the significance map of a block of `max` levels, in which one is other than 0.
 #[inline(always)]
-pub fn read_marks<S: BinSource>(s: &mut S, cat: u8, field: bool, max: u8) -> Option<Marks>
+pub fn read_places<S: BinSource>(s: &mut S, cat: u8, field: bool, max: u8) -> Option<Places>
     requires going { S.over s.old ≡ false }
     requires shape { IsShape cat max }
-    ensures reads { Reads S.step (marks_from cat field [] 0 (max - 1)) (option_map (λ marks. reverse marks.items) result) s.old s.new }
+    ensures reads { Reads S.step (marks_from cat field [] 0 (max - 1)) (option_map (λ places. marks_below (behind_last (reverse places.items)) (reverse places.items)) result) s.old s.new }
     ensures going { OnSome result (S.over s.new ≡ false) }
-    ensures most { IfSome result (λ marks. array_vec_len marks ≤ max) }
+    ensures below { IfSome result (λ places. AreBelow max (reverse places.items)) }
 {
-    let mut marks = Marks::new();
+    let mut places = Places::new();
     for place in 0..max - 1 {
-        let (is_significant, is_last) = read_mark(s, cat, field, place)?;
-        marks.push(is_significant);
+        let is_significant = s.bin(significance_context(cat, field, place))?;
+        if !is_significant {
+            continue;
+        }
+        places.push(place);
+        let is_last = s.bin(last_context(cat, field, place))?;
         if is_last {
-            return Some(marks);
+            return Some(places);
         }
     }
-    marks.push(true);
-    Some(marks)
+    places.push(max - 1);
+    Some(places)
 }
 
 /// Whether a level is other than 0.
