@@ -7,4 +7,5 @@ pub mod PartLemmas
 pub mod ScanLemmas
 pub mod PlaceLemmas
 pub mod BlockLemmas
+pub mod GapLemmas
 pub mod WriteLemmas

@@ -1,9 +1,10 @@
-use Rattle.std.proofs.Common.{◌≡◌, ℕ, zero, suc, ◌+◌, ◌-◌, ◌*◌, ◌/◌, ◌%◌, ◌^◌, ◌<◌, ◌≤◌, ℤ, pos, negsuc, Bool, true, false, cond, List, [], ◌∷◌, ◌++◌, length, get_or, take, drop, map, sum, filter, reverse, refl, sym, ap, ◌∙◌, subst, arith, add-zero, append_assoc, ◌⊎◌, inl, inr, w32, to_z, of_z, eqb, Option, Some, None, Result, IsErr}
+use Rattle.std.proofs.Common.{◌≡◌, ℕ, zero, suc, ◌+◌, ◌-◌, ◌*◌, ◌/◌, ◌%◌, ◌^◌, ◌<◌, ◌≤◌, ℤ, pos, negsuc, Bool, true, false, cond, List, [], ◌∷◌, ◌++◌, length, get_or, slice_set, take, drop, map, sum, filter, reverse, refl, sym, ap, ◌∙◌, subst, arith, append_assoc, ◌⊎◌, inl, inr, w32, to_z, of_z, eqb, Option, Some, None, Result, IsErr}
 use Rattle.std.specs.List.{AllByRecursion}
 use Rattle.std.proofs.lemmas.Int.{ints, to_z-of_z}
-use Rattle.std.proofs.lemmas.List.{map-append, append-nil, nil_from_length, reverse-append, drop_more, take_more, length-drop, length-take-le, get_or_past, length-reverse, take-append-drop}
+use Rattle.std.proofs.lemmas.List.{map-append, append-nil, nil_from_length, reverse-append, drop_more, take_more, take_more_set, take-set, length-drop, get_or_past, length-reverse}
 use Rattle.std.proofs.lemmas.List.Sums.{sum_by-cons}
-use Rattle.std.proofs.lemmas.Bool.{cases_Bool, le-ltb}
+use Rattle.std.proofs.lemmas.Bool.{cases_Bool, le-ltb, ne_eqb}
+use Rattle.std.proofs.Math.Bool.{not}
 use Rattle.cavlc_residual.proofs.Pieces.{AppendsFront, Appends-stop, Wrote-front}
 use Rattle.bit_texts.specs.Texts.{Appended, Appends, Wrote}
 use Rattle.std.specs.Int.{from_bool}
@@ -18,11 +19,13 @@ use Rattle.code_tables.specs.CoeffToken.{coeff_token_list}
 use Rattle.code_tables.specs.RunBefore.{run_before_list}
 use Rattle.code_tables.specs.TotalZeros.{total_zeros_list}
 use Rattle.cavlc_residual.specs.Coefficients.{magnitude, is_minus, next_suffix_length, coefficient_text, coefficients_text, AreCoefficients}
-use Rattle.cavlc_residual.specs.Block.{is_nonzero, total_coeff, leading_zeros, runs_of, runs_text, trailing_ones, first_suffix_length, first_extra, levels_text, parts_text, block_text, is_above, levels_above, is_beyond}
+use Rattle.cavlc_residual.specs.Block.{IsShape, is_nonzero, total_coeff, runs_of, runs_text, trailing_ones, first_suffix_length, first_extra, levels_text, parts_text, block_text, levels_above, is_beyond}
 use Rattle.cavlc_residual.specs.Parts.{AreLevels}
+use Rattle.cavlc_residual.specs.Places.{places_of, AreFalling, gaps}
+use Rattle.cavlc_residual.proofs.GapLemmas.{gaps-places, falling-places, falling_more, length-gaps}
 use Rattle.cavlc_residual.proofs.RunLemmas.{zeros_none}
-use Rattle.cavlc_residual.proofs.ScanLemmas.{zero_is, AllNonzero, AllNonzero-filter, length_parts, count-reverse, length-runs_of}
-use Rattle.cavlc_residual.proofs.BlockLemmas.{AllSmall, all_filter, all_reverse, all_parts, levels_are}
+use Rattle.cavlc_residual.proofs.ScanLemmas.{zero_is, AllNonzero, AllNonzero-filter, count-reverse, length-runs_of}
+use Rattle.cavlc_residual.proofs.BlockLemmas.{AllSmall, all_filter, all_reverse, levels_are}
 
 -- ---- numbers of 32 bits
 
@@ -89,6 +92,15 @@ runs-end left i rs old new text h wrote = Wrote-end old new text (runs_text left
   none (x ∷ []) h = refl
   none (x ∷ y ∷ xs) h = absurd (omega arith)
 
+-- the run behind the level at a place is the gap up to the next place
+pub gaps-turn : (left i j r : ℕ) (ps : List ℕ) (old mid new text : List Bool) → 0 < i → i < length ps → j ≡ i → r ≡ get_or (gaps ps) (i - 1) 0 → sum (drop (i - 1) (gaps ps)) ≤ left → Wrote old mid text (runs_text left (drop (i - 1) (gaps ps))) → Appended mid new (word_at (run_before_list left) r) → (sum (drop j (gaps ps)) ≤ left - r) × Wrote old new text (runs_text (left - r) (drop j (gaps ps)))
+gaps-turn left i j r ps old mid new text some h at run fits wrote step =
+    let P : ℕ → Type 0 = λ n. Appended mid new (word_at (run_before_list left) n) in
+    let Q : ℕ → ℕ → Type 0 = λ k n. (sum (drop k (gaps ps)) ≤ left - n) × Wrote old new text (runs_text (left - n) (drop k (gaps ps))) in
+    let next : i - 1 + 1 ≡ j = omega (arith, some, at) in
+    let turn = runs-turn left (i - 1) (gaps ps) old mid new text (omega (arith, some, h, length-gaps ps)) fits wrote (subst P run step) in
+    subst (λ k. Q k r) next (subst (λ n. Q (i - 1 + 1) n) (sym run) turn)
+
 -- where no zeros are left no run is sent
 no_run : (x : ℕ) → word_at (run_before_list 0) x ≡ []
 unfolding run_before_list binary
@@ -121,21 +133,21 @@ nonzero_i32 x h = by (cases_Bool (is_nonzero x)) where
   by (inl e) = e
   by (inr e) = absurd (h (ap (of_z w32) (zero_is x e)))
 
--- a zero in front, which is behind no level, counts for nothing
-pub without_zero : (ds more : List ℤ) (x : ℤ) → magnitude x ≤ 65535 → of_z w32 x ≡ 0 → ds ≡ x ∷ more → (filter is_nonzero ds ≡ filter is_nonzero more) × (runs_of ds ≡ runs_of more)
-without_zero ds more x small e next =
-    let at : ds ≡ pos 0 ∷ more = next ∙ ap (λ y. y ∷ more) (zero_i32 x small e) in
-    (ap (filter is_nonzero) at, ap runs_of at)
+pub nonzero_test : (x : ℤ) → magnitude x ≤ 65535 → not (eqb (of_z w32 x) 0) ≡ is_nonzero x
+nonzero_test x small = by (of_z w32 x) refl where
+  by : (n : ℕ) → of_z w32 x ≡ n → not (eqb n 0) ≡ is_nonzero x
+  by zero e = sym (ap is_nonzero (zero_i32 x small e))
+  by (suc n) e = ap not (ne_eqb (suc n) 0 (λ z. absurd (omega (arith, z)))) ∙ sym (nonzero_i32 x (λ z. absurd (omega (arith, e, z))))
 
--- so do four at the end
-one_less : (xs : List ℤ) (i k : ℕ) → k ≡ i + 1 → i < length xs → get_or xs i (pos 0) ≡ pos 0 → (filter is_nonzero (reverse (take k xs)) ≡ filter is_nonzero (reverse (take i xs))) × (runs_of (reverse (take k xs)) ≡ runs_of (reverse (take i xs)))
+-- a zero at the end, which is behind no level, counts for nothing, nor do four
+one_less : (xs : List ℤ) (i k : ℕ) → k ≡ i + 1 → i < length xs → get_or xs i (pos 0) ≡ pos 0 → (filter is_nonzero (reverse (take k xs)) ≡ filter is_nonzero (reverse (take i xs))) × (places_of (reverse (take k xs)) ≡ places_of (reverse (take i xs)))
 one_less xs i k at h e =
     let next : reverse (take k xs) ≡ pos 0 ∷ reverse (take i xs) = down-next xs i k (pos 0) at h (sym e) in
-    (ap (filter is_nonzero) next, ap runs_of next)
+    (ap (filter is_nonzero) next, ap places_of next)
 
 pub four_less : (xs : List ℤ) (k : ℕ) → 4 ≤ k → k ≤ length xs → AllByRecursion (λ l. magnitude l ≤ 65535) xs
     → (to_z w32 (of_z w32 (get_or xs (k - 1) (pos 0))) ≡ pos 0) × ((to_z w32 (of_z w32 (get_or xs (k - 2) (pos 0))) ≡ pos 0) × ((to_z w32 (of_z w32 (get_or xs (k - 3) (pos 0))) ≡ pos 0) × (to_z w32 (of_z w32 (get_or xs (k - 4) (pos 0))) ≡ pos 0)))
-    → (filter is_nonzero (reverse (take k xs)) ≡ filter is_nonzero (reverse (take (k - 4) xs))) × (runs_of (reverse (take k xs)) ≡ runs_of (reverse (take (k - 4) xs)))
+    → (filter is_nonzero (reverse (take k xs)) ≡ filter is_nonzero (reverse (take (k - 4) xs))) × (places_of (reverse (take k xs)) ≡ places_of (reverse (take (k - 4) xs)))
 four_less xs k some within small none =
     let zero_at : (i : ℕ) → i < length xs → to_z w32 (of_z w32 (get_or xs i (pos 0))) ≡ pos 0 → get_or xs i (pos 0) ≡ pos 0 = λ i h e. sym (same_i32 (get_or xs i (pos 0)) (all_at (λ l. magnitude l ≤ 65535) xs i small h)) ∙ e in
     let a = one_less xs (k - 1) k (omega arith) (omega arith) (zero_at (k - 1) (omega arith) none.0) in
@@ -144,66 +156,17 @@ four_less xs k some within small none =
     let d = one_less xs (k - 4) (k - 3) (omega arith) (omega arith) (zero_at (k - 4) (omega arith) none.1.1.1) in
     (a.0 ∙ (b.0 ∙ (c.0 ∙ d.0)), a.1 ∙ (b.1 ∙ (c.1 ∙ d.1)))
 
--- the levels ls with the runs rs behind all but the last, z zeros behind that, and then the rest
-pub record Splits (ds rest ls : List ℤ) (rs : List ℕ) (z : ℕ) : Type 0 where
-  pub levels : filter is_nonzero ds ≡ ls ++ filter is_nonzero rest
-  pub runs : runs_of ds ≡ rs ++ (z + leading_zeros rest) ∷ runs_of rest
-
-pub splits-start : (ds es rest ls : List ℤ) (rs : List ℕ) (z : ℕ) (x : ℤ) → is_nonzero x ≡ true → filter is_nonzero ds ≡ filter is_nonzero es → runs_of ds ≡ runs_of es → es ≡ x ∷ rest → ls ≡ x ∷ [] → rs ≡ [] → z ≡ 0 → Splits ds rest ls rs z
-splits-start ds es rest ls rs z x is same same_runs next level none zero_count = record {
-  levels =
-      same ∙ (ap (filter is_nonzero) next ∙ (ap (λ b. cond b (x ∷ filter is_nonzero rest) (filter is_nonzero rest)) is
-      ∙ ap (λ t. t ++ filter is_nonzero rest) (sym level)));
-  runs =
-      same_runs ∙ (ap runs_of next ∙ (ap (λ b. cond b (leading_zeros rest ∷ runs_of rest) (runs_of rest)) is
-      ∙ (ap (λ n. n ∷ runs_of rest) (let e : leading_zeros rest ≡ z + leading_zeros rest = omega (arith, zero_count) in e)
-      ∙ ap (λ t. t ++ (z + leading_zeros rest) ∷ runs_of rest) (sym none))));
-}
-
-pub splits-zero : (ds rest more ls ms : List ℤ) (rs ss : List ℕ) (z y : ℕ) (x : ℤ) → magnitude x ≤ 65535 → of_z w32 x ≡ 0 → rest ≡ x ∷ more → ms ≡ ls → ss ≡ rs → y ≡ z + 1 → Splits ds rest ls rs z → Splits ds more ms ss y
-splits-zero ds rest more ls ms rs ss z y x small e next kept kept_runs one known =
-    let at : rest ≡ pos 0 ∷ more = next ∙ ap (λ l. l ∷ more) (zero_i32 x small e) in
-    let count : z + leading_zeros rest ≡ y + leading_zeros more = ap (λ t. z + leading_zeros t) at ∙ omega (arith, one) in
-    record {
-      levels = known.levels ∙ (ap (λ t. ls ++ filter is_nonzero t) at ∙ ap (λ t. t ++ filter is_nonzero more) (sym kept));
-      runs =
-          known.runs ∙ (ap (λ t. rs ++ (z + leading_zeros rest) ∷ runs_of t) at
-          ∙ (ap (λ n. rs ++ n ∷ runs_of more) count ∙ ap (λ t. t ++ (y + leading_zeros more) ∷ runs_of more) (sym kept_runs)));
-    }
-
-pub splits-level : (ds rest more ls ms : List ℤ) (rs ss : List ℕ) (z y : ℕ) (x : ℤ) → is_nonzero x ≡ true → rest ≡ x ∷ more → ms ≡ ls ++ x ∷ [] → ss ≡ rs ++ z ∷ [] → y ≡ 0 → Splits ds rest ls rs z → Splits ds more ms ss y
-splits-level ds rest more ls ms rs ss z y x is next push push_run none known =
-    let level : filter is_nonzero rest ≡ x ∷ filter is_nonzero more = ap (filter is_nonzero) next ∙ ap (λ b. cond b (x ∷ filter is_nonzero more) (filter is_nonzero more)) is in
-    let run : runs_of rest ≡ leading_zeros more ∷ runs_of more = ap runs_of next ∙ ap (λ b. cond b (leading_zeros more ∷ runs_of more) (runs_of more)) is in
-    let front : leading_zeros rest ≡ 0 = ap leading_zeros next ∙ ap (λ b. cond b 0 (leading_zeros more + 1)) is in
-    let count : z + leading_zeros rest ≡ z = omega (arith, front) in
-    let fresh : leading_zeros more ≡ y + leading_zeros more = omega (arith, none) in
-    record {
-      levels = known.levels ∙ (ap (λ t. ls ++ t) level ∙ (sym (append_assoc ls (x ∷ []) (filter is_nonzero more)) ∙ ap (λ t. t ++ filter is_nonzero more) (sym push)));
-      runs =
-          known.runs ∙ (ap (λ n. rs ++ n ∷ runs_of rest) count ∙ (ap (λ t. rs ++ z ∷ t) run
-          ∙ (ap (λ n. rs ++ z ∷ n ∷ runs_of more) fresh
-          ∙ (sym (append_assoc rs (z ∷ []) ((y + leading_zeros more) ∷ runs_of more)) ∙ ap (λ t. t ++ (y + leading_zeros more) ∷ runs_of more) (sym push_run)))));
-    }
-
-pub splits-end : (ds rest ls : List ℤ) (rs ss : List ℕ) (z : ℕ) → rest ≡ [] → ss ≡ rs ++ z ∷ [] → Splits ds rest ls rs z → (ls ≡ filter is_nonzero ds) × (ss ≡ runs_of ds)
-splits-end ds rest ls rs ss z none push known = (
-  sym (known.levels ∙ (ap (λ t. ls ++ filter is_nonzero t) none ∙ append-nil ls)),
-  push ∙ sym (known.runs ∙ (ap (λ t. rs ++ (z + leading_zeros t) ∷ runs_of t) none ∙ ap (λ n. rs ++ n ∷ []) (add-zero z))),
-)
-
-pub none_left : (xs : List ℤ) (left : ℕ) → left ≤ 0 → reverse (take left xs) ≡ []
-none_left xs left h = ap (λ n. reverse (take n xs)) (let none : left ≡ 0 = omega arith in none)
-
--- where no zero stands at the end, so many zeros are behind the levels
-pub zeros_behind : (xs : List ℤ) (count total : ℕ) → 0 < count → count ≤ length xs → is_nonzero (get_or xs (count - 1) (pos 0)) ≡ true → filter is_nonzero (reverse xs) ≡ filter is_nonzero (reverse (take count xs)) → runs_of (reverse xs) ≡ runs_of (reverse (take count xs)) → total ≡ length (filter is_nonzero (reverse xs)) → total + sum (runs_of (reverse xs)) ≡ count
-zeros_behind xs count total some within last same same_runs size =
-    let es = reverse (take count xs) in
-    let rest = reverse (take (count - 1) xs) in
-    let next : es ≡ get_or xs (count - 1) (pos 0) ∷ rest = down-next xs (count - 1) count (get_or xs (count - 1) (pos 0)) (omega (arith, some)) (omega (arith, some, within)) refl in
-    let front : leading_zeros es ≡ 0 = ap leading_zeros next ∙ ap (λ b. cond b 0 (leading_zeros rest + 1)) last in
-    let whole : length es ≡ count = length-reverse (take count xs) ∙ length-take-le count xs within in
-    omega (arith, length_parts es, front, whole, ap (λ (t : List ℤ). length t) same, ap sum same_runs, size)
+-- Of the list that a loop takes from `rest`, so many are stored: one more is stored behind them, and counts only where it
+-- is one of the list.
+pub store-turn : {A : Type 0} (list stored all rest more : List A) (count k i : ℕ) (b : Bool) (y : A) → i ≡ count → i < length list → k ≡ count + from_bool b → stored ≡ slice_set list i y → rest ≡ cond b (y ∷ more) more → all ≡ take count list ++ rest → all ≡ take k stored ++ more
+store-turn list stored all rest more count k i true y at h next set front known =
+    let one : k ≡ i + 1 = omega (arith, at, next) in
+    known ∙ (ap (λ t. take count list ++ t) front ∙ (sym (append_assoc (take count list) (y ∷ []) more)
+    ∙ ap (λ t. t ++ more) (ap (λ n. take n list ++ y ∷ []) (sym at) ∙ (sym (take_more_set list i y h) ∙ (ap (λ t. take (i + 1) t) (sym set) ∙ ap (λ n. take n stored) (sym one))))))
+store-turn list stored all rest more count k i false y at h next set front known =
+    let same : k ≡ i = omega (arith, at, next) in
+    known ∙ (ap (λ t. take count list ++ t) front
+    ∙ ap (λ t. t ++ more) (ap (λ n. take n list) (sym at) ∙ (sym (take-set list i y) ∙ (ap (λ t. take i t) (sym set) ∙ ap (λ n. take n stored) (sym same)))))
 
 pub small_element : (xs ys : List ℤ) (i : ℕ) → xs ≡ ys → AllByRecursion (λ l. magnitude l ≤ 65535) ys → i < length xs → magnitude (get_or xs i (pos 0)) ≤ 65535
 small_element xs ys i e all h = let P : List ℤ → Type 0 = λ t. AllByRecursion (λ l. magnitude l ≤ 65535) t in all_at (λ l. magnitude l ≤ 65535) xs i (subst P (sym e) all) h
@@ -339,13 +302,6 @@ empty_text nc levels none =
     sym (ap (λ t. parts_text nc (length levels) t (runs_of ds)) no_levels ∙ (ap (parts_text nc (length levels) []) no_runs
     ∙ (ap (λ t. word_at (coeff_token_list nc) (4 * 0 + 0) ++ (t ++ [])) behind ∙ append-nil (word_at (coeff_token_list nc) (4 * 0 + 0)))))
 
--- the two parts of a slice that is split behind the trailing ones
-pub split_front : (n o : ℕ) (xs ls : List ℤ) → n ≡ o → xs ≡ ls → take n xs ≡ take o ls
-split_front n o xs ls e f = ap (λ k. take k xs) e ∙ ap (take o) f
-
-pub split_back : (n o : ℕ) (xs ls : List ℤ) → n ≡ o → xs ≡ ls → drop n xs ≡ drop o ls
-split_back n o xs ls e f = ap (λ k. drop k xs) e ∙ ap (drop o) f
-
 -- ---- a block that is to be written
 
 coefficients_weaker : (bound s e : ℕ) (ls : List ℤ) → bound ≤ 20 → AreCoefficients bound s e ls → AreCoefficients 20 s e ls
@@ -364,24 +320,23 @@ found_known levels cs e small =
       subst Q (sym e) (all_filter _ is_nonzero (reverse levels) (all_reverse _ levels small)),
     )
 
-pub others_all : (P : ℤ → Type 0) (cs others : List ℤ) (o : ℕ) → others ≡ drop o cs → AllByRecursion P cs → AllByRecursion P others
-others_all P cs others o back all =
-    let Q : List ℤ → Type 0 = λ t. AllByRecursion P t in
-    subst Q (sym back) (all_parts P (take o cs) (drop o cs) (subst Q (sym (take-append-drop o cs)) all)).1
-
-pub above_is : (bound : ℕ) (cs others : List ℤ) (o t s e : ℕ) (r : Bool) → o ≡ trailing_ones cs → t ≡ length cs → others ≡ drop o cs → s ≡ first_suffix_length t o → e ≡ first_extra o → r ≡ is_above bound s e others → r ≡ levels_above bound cs
-above_is bound cs others o t s e r ones total back length_is extra_is answer =
-    sym (ap (λ k. is_above bound (first_suffix_length (length cs) k) (first_extra k) (drop k cs)) (sym ones)
-    ∙ (ap (λ n. is_above bound (first_suffix_length n o) (first_extra o) (drop o cs)) (sym total)
-    ∙ (ap (λ n. is_above bound n (first_extra o) (drop o cs)) (sym length_is)
-    ∙ (ap (λ n. is_above bound s n (drop o cs)) (sym extra_is)
-    ∙ (ap (is_above bound s e) (sym back) ∙ sym answer)))))
-
 pub levels_known : (bound : ℕ) (levels cs : List ℤ) → bound ≤ 20 → cs ≡ filter is_nonzero (reverse levels) → AllSmall levels → is_beyond bound levels ≡ false → AreLevels (length cs, trailing_ones cs) 20 cs
 levels_known bound levels cs h found small within =
     let known = found_known levels cs found small in
     let are = levels_are bound cs (ap (levels_above bound) found ∙ within) known.0 known.1 in
     record { count = are.count; ones = are.ones; others = coefficients_weaker bound _ _ _ h are.others }
+
+shape_few : (nc : ℤ) (max : ℕ) → IsShape nc max → max ≤ 16
+shape_few (negsuc n) max e = omega (arith, e)
+shape_few (pos n) max (inl e) = omega (arith, e)
+shape_few (pos n) max (inr e) = omega (arith, e)
+
+-- of the places of the levels other than 0 of a block
+pub places_known : (nc : ℤ) (levels : List ℤ) (ps : List ℕ) → ps ≡ places_of (reverse levels) → IsShape nc (length levels) → AreFalling 16 ps × (gaps ps ≡ runs_of (reverse levels))
+places_known nc levels ps found shape =
+    let P : List ℕ → Type 0 = λ t. AreFalling 16 t in
+    let fall = falling_more (length (reverse levels)) 16 (places_of (reverse levels)) (omega (arith, shape_few nc (length levels) shape, length-reverse levels)) (falling-places (reverse levels)) in
+    (subst P (sym found) fall, ap gaps found ∙ gaps-places (reverse levels))
 
 pub text_is : (nc : ℤ) (max : ℕ) (levels cs : List ℤ) (rs : List ℕ) → cs ≡ filter is_nonzero (reverse levels) → rs ≡ runs_of (reverse levels) → max ≡ length levels → parts_text nc max cs rs ≡ block_text nc levels
 text_is nc max levels cs rs found runs size =

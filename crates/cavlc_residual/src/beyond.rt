@@ -3,9 +3,8 @@ ghost use Rattle.std.specs.List.{AllByRecursion};
 ghost use Rattle.cavlc_residual.specs.Coefficients.{magnitude};
 ghost use Rattle.cavlc_residual.specs.Block.{is_nonzero, is_above, levels_above as above_test, is_beyond as beyond_test};
 
-use crate::coefficients::{Coefficients, is_prefix_above, suffix_length_after};
+use crate::coefficients::{is_prefix_above, suffix_length_after};
 use crate::parts::{extra_first, suffix_length_first};
-use crate::runs::Runs;
 use crate::writing::{count_ones, separate};
 
 /// Whether some level needs a level_prefix above the bound.
@@ -30,18 +29,19 @@ fn is_above_bound(levels: &[i32], suffix_length: u8, extra: u8, bound: u8) -> bo
 }
 
 /// Whether some level other than 0 of a block needs a level_prefix above the bound. None needs one above 20.
-pub fn levels_above(levels: &Coefficients, bound: u8) -> bool
-    requires nonzero { AllByRecursion (λ l. is_nonzero l ≡ true) levels.now.items }
-    requires small { AllByRecursion (λ l. magnitude l ≤ 65535) levels.now.items }
+pub fn levels_above(levels: &[i32], bound: u8) -> bool
+    requires few { length levels.now ≤ 16 }
+    requires nonzero { AllByRecursion (λ l. is_nonzero l ≡ true) levels.now }
+    requires small { AllByRecursion (λ l. magnitude l ≤ 65535) levels.now }
     requires within { bound ≤ 20 }
-    ensures { result ≡ above_test bound levels.now.items }
+    ensures { result ≡ above_test bound levels.now }
 {
     if bound == 20 {
         return false;
     }
     let total = levels.len() as u8;
-    let ones = count_ones(levels.as_slice());
-    let (_ones, others) = levels.as_slice().split_at(usize::from(ones));
+    let ones = count_ones(levels);
+    let (_ones, others) = levels.split_at(usize::from(ones));
     is_above_bound(
         others,
         suffix_length_first(total, ones),
@@ -57,8 +57,6 @@ pub fn is_beyond(levels: &[i32], bound: u8) -> bool
     requires within { bound ≤ 20 }
     ensures { result ≡ beyond_test bound levels.now }
 {
-    let mut coefficients = Coefficients::new();
-    let mut runs = Runs::new();
-    let _zeros = separate(levels, &mut coefficients, &mut runs);
-    levels_above(&coefficients, bound)
+    let parts = separate(levels);
+    levels_above(&parts.levels[..usize::from(parts.count)], bound)
 }

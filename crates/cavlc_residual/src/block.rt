@@ -7,14 +7,15 @@ ghost use Rattle.code_tables.specs.CoeffToken.{coeff_token_list};
 ghost use Rattle.cavlc_residual.specs.Coefficients.{magnitude};
 ghost use Rattle.cavlc_residual.specs.Block.{IsShape, trailing_ones, total_coeff, levels_text, parts_text, block_text, is_beyond, IsBlock};
 ghost use Rattle.cavlc_residual.specs.Parts.{AreLevels};
+ghost use Rattle.cavlc_residual.specs.Places.{gaps, AreFalling};
 
 use crate::beyond::levels_above;
 use crate::coefficients::Coefficients;
 use crate::fault::BlockFault;
 use crate::parts::{extra_first, read_nonzero, read_token, suffix_length_first};
-use crate::runs::{Runs, read_runs, read_total_zeros};
+use crate::runs::{read_runs, read_total_zeros};
 use crate::words::{write_code, write_code_and};
-use crate::writing::{count_ones, separate, signs_of, write_coefficients, write_runs};
+use crate::writing::{count_ones, count_zeros, separate, signs_of, write_coefficients, write_runs};
 use code_tables::{coeff_token_table, total_zeros_table};
 use exp_golomb::{BitSink, BitSource};
 use h264_types::Levels;
@@ -81,13 +82,14 @@ fn levels_of(list: &[i32]) -> Levels
 }
 
 /// Appends coeff_token and the text of the levels other than 0.
-fn write_nonzero<B: BitSink>(b: &mut B, nc: i8, levels: &Coefficients) -> Result<(), Memory>
-    requires { AreLevels (array_vec_len levels.now, trailing_ones levels.now.items) 20 levels.now.items }
-    ensures { Appends (B.bits b.old) (B.bits b.new) (word_at (coeff_token_list nc) (4 * length levels.now.items + trailing_ones levels.now.items) ++ levels_text levels.now.items) result }
+fn write_nonzero<B: BitSink>(b: &mut B, nc: i8, levels: &[i32]) -> Result<(), Memory>
+    requires few { length levels.now ≤ 16 }
+    requires levels { AreLevels (length levels.now, trailing_ones levels.now) 20 levels.now }
+    ensures { Appends (B.bits b.old) (B.bits b.new) (word_at (coeff_token_list nc) (4 * length levels.now + trailing_ones levels.now) ++ levels_text levels.now) result }
 {
     let total = levels.len() as u8;
-    let ones = count_ones(levels.as_slice());
-    let (signs, others) = levels.as_slice().split_at(usize::from(ones));
+    let ones = count_ones(levels);
+    let (signs, others) = levels.split_at(usize::from(ones));
     write_code_and(
         b,
         &coeff_token_table(nc),
@@ -103,24 +105,25 @@ fn write_nonzero<B: BitSink>(b: &mut B, nc: i8, levels: &Coefficients) -> Result
     )
 }
 
-/// Appends the text of a block whose parts are these, with the sum of the runs.
+/// Appends the text of a block with these levels other than 0, which stand at these places.
 fn write_parts<B: BitSink>(
     b: &mut B,
     nc: i8,
     max: u8,
-    levels: &Coefficients,
-    runs: &Runs,
-    zeros: u8,
+    levels: &[i32],
+    places: &[u8],
 ) -> Result<(), Memory>
     requires max { max ≤ 16 }
-    requires levels { AreLevels (array_vec_len levels.now, trailing_ones levels.now.items) 20 levels.now.items }
-    requires zeros { zeros ≡ sum runs.now.items }
-    ensures { Appends (B.bits b.old) (B.bits b.new) (parts_text nc max levels.now.items runs.now.items) result }
+    requires levels { AreLevels (length levels.now, trailing_ones levels.now) 20 levels.now }
+    requires pairs { length places.now ≡ length levels.now }
+    requires falling { AreFalling 16 places.now }
+    ensures { Appends (B.bits b.old) (B.bits b.new) (parts_text nc max levels.now (gaps places.now)) result }
 {
     write_nonzero(b, nc, levels)?;
+    let zeros = count_zeros(places);
     let table = total_zeros_table(max, levels.len() as u8);
     write_code(b, &table, usize::from(zeros))?;
-    write_runs(b, zeros, runs.as_slice())
+    write_runs(b, zeros, places)
 }
 
 /// Appends the text of a block of these levels, as `read_levels` reads it. Beyond is answered exactly where some level
@@ -138,13 +141,19 @@ pub fn write_levels<B: BitSink>(
     ensures unwritten { result ≡ Err BlockFault.Beyond → B.bits b.new ≡ B.bits b.old }
     ensures written { result ≢ Err BlockFault.Beyond → Appends (B.bits b.old) (B.bits b.new) (block_text nc levels.now) result }
 {
-    let mut coefficients = Coefficients::new();
-    let mut runs = Runs::new();
-    let zeros = separate(levels, &mut coefficients, &mut runs);
-    if levels_above(&coefficients, bound) {
+    let parts = separate(levels);
+    let count = usize::from(parts.count);
+    let coefficients = &parts.levels[..count];
+    if levels_above(coefficients, bound) {
         return Err(BlockFault::Beyond);
     }
-    write_parts(b, nc, levels.len() as u8, &coefficients, &runs, zeros)?;
+    write_parts(
+        b,
+        nc,
+        levels.len() as u8,
+        coefficients,
+        &parts.places[..count],
+    )?;
     Ok(())
 }
 

@@ -6,13 +6,9 @@ ghost use Rattle.code_tables.specs.RunBefore.{run_before_list};
 ghost use Rattle.cavlc_residual.specs.Parts.{ReadsPlaced};
 
 use crate::words::{read_code, write_code};
-use arrayvec::ArrayVec;
 use code_tables::{run_before_table, total_zeros_table};
 use exp_golomb::{BitSink, BitSource};
 use std::alloc::AllocError as Memory;
-
-/// The runs of zeros behind the levels other than 0, from the highest frequency down.
-pub type Runs = ArrayVec<u8, 16>;
 
 /// Reads total_zeros of a block of `max` levels, `total` of which aren't 0.
 pub fn read_total_zeros<B: BitSource>(b: &mut B, max: u8, total: u8) -> Option<u8>

@@ -1,13 +1,13 @@
-ghost use Rattle.std.specs.Prelude.{◌≡◌, ◌-◌, ◌<◌, ◌≤◌, ◌^◌, true, [], length, map, take, filter, reverse, sum, pos, slice_index_or};
+ghost use Rattle.std.specs.Prelude.{◌≡◌, ◌<◌, ◌≤◌, ◌^◌, true, length, map, take, filter, reverse, sum, pos};
 ghost use Rattle.std.specs.List.{AllByRecursion};
-ghost use Rattle.arrayvec.specs.ArrayVec.{array_vec_len};
 ghost use Rattle.bit_texts.specs.Bits.{binary};
 ghost use Rattle.bit_texts.specs.Texts.{Appends};
 ghost use Rattle.cavlc_residual.specs.Coefficients.{magnitude, is_minus, coefficients_text, AreCoefficients};
-ghost use Rattle.cavlc_residual.specs.Block.{is_nonzero, runs_of, is_one as one_test, trailing_ones, runs_text};
+ghost use Rattle.cavlc_residual.specs.Block.{is_nonzero, is_one as one_test, trailing_ones, runs_text};
+ghost use Rattle.cavlc_residual.specs.Places.{places_of, gaps, AreFalling};
 
-use crate::coefficients::{Coefficients, suffix_length_after, write_coefficient};
-use crate::runs::{Runs, write_run};
+use crate::coefficients::{suffix_length_after, write_coefficient};
+use crate::runs::write_run;
 use exp_golomb::BitSink;
 use std::alloc::AllocError as Memory;
 
@@ -22,7 +22,7 @@ fn count_before_fours(levels: &[i32]) -> usize
     requires { AllByRecursion (λ l. magnitude l ≤ 65535) levels.now }
     ensures within { result ≤ length levels.now }
     ensures levels { filter is_nonzero (reverse levels.now) ≡ filter is_nonzero (reverse (take result levels.now)) }
-    ensures runs { runs_of (reverse levels.now) ≡ runs_of (reverse (take result levels.now)) }
+    ensures places { places_of (reverse levels.now) ≡ places_of (reverse (take result levels.now)) }
 {
     let mut count = levels.len();
     while count >= 4 {
@@ -39,58 +39,40 @@ fn count_before_fours(levels: &[i32]) -> usize
     count
 }
 
-/// How many levels stand before the zeros at the end.
-fn count_before_zeros(levels: &[i32]) -> usize
-    requires { AllByRecursion (λ l. magnitude l ≤ 65535) levels.now }
-    ensures within { result ≤ length levels.now }
-    ensures levels { filter is_nonzero (reverse levels.now) ≡ filter is_nonzero (reverse (take result levels.now)) }
-    ensures runs { runs_of (reverse levels.now) ≡ runs_of (reverse (take result levels.now)) }
-    ensures last { 0 < result → is_nonzero (slice_index_or levels.now (result - 1) (pos 0)) ≡ true }
-{
-    let mut count = count_before_fours(levels);
-    while count > 0 {
-        let level = levels[count - 1];
-        if level != 0 {
-            return count;
-        }
-        count -= 1;
-    }
-    0
+/// The levels of a block other than 0, from the highest frequency down, and their places in it, each in the first
+/// `count` elements of its array. What stands behind them has no meaning.
+#[derive(Clone, Copy)]
+pub struct Separated {
+    pub levels: [i32; 16],
+    pub places: [u8; 16],
+    pub count: u8,
 }
 
-/// Puts the levels other than 0, from the highest frequency down, and the runs of zeros behind them into two empty lists.
-/// Answers how many zeros those runs are.
-pub fn separate(levels: &[i32], coefficients: &mut Coefficients, runs: &mut Runs) -> u8
+/// Takes the levels other than 0 out of a block. Each level is stored, and counts only where it isn't 0, so that the next
+/// one takes the place of a zero: which levels are 0 is hard to foretell, and no branch depends on it.
+pub fn separate(levels: &[i32]) -> Separated
     requires few { length levels.now ≤ 16 }
     requires small { AllByRecursion (λ l. magnitude l ≤ 65535) levels.now }
-    requires empty { coefficients.old.items ≡ [] }
-    requires no_runs { runs.old.items ≡ [] }
-    ensures levels { coefficients.new.items ≡ filter is_nonzero (reverse levels.now) }
-    ensures runs { runs.new.items ≡ runs_of (reverse levels.now) }
-    ensures pairs { array_vec_len runs.new ≡ array_vec_len coefficients.new }
-    ensures few { array_vec_len coefficients.new ≤ length levels.now }
-    ensures zeros { result ≡ sum runs.new.items }
+    ensures few { result.count ≤ length levels.now }
+    ensures levels { take result.count result.levels ≡ filter is_nonzero (reverse levels.now) }
+    ensures places { take result.count result.places ≡ places_of (reverse levels.now) }
 {
-    let count = count_before_zeros(levels);
-    if count == 0 {
-        return 0;
-    }
-    coefficients.push(levels[count - 1]);
-    let mut zeros = 0u8;
-    let mut left = count - 1;
+    let mut found = [0i32; 16];
+    let mut places = [0u8; 16];
+    let mut count = 0u8;
+    let mut left = count_before_fours(levels);
     while left > 0 {
         left -= 1;
         let level = levels[left];
-        if level == 0 {
-            zeros += 1;
-        } else {
-            coefficients.push(level);
-            runs.push(zeros);
-            zeros = 0;
-        }
+        found[usize::from(count)] = level;
+        places[usize::from(count)] = left as u8;
+        count += u8::from(level != 0);
     }
-    runs.push(zeros);
-    (count - coefficients.len()) as u8
+    Separated {
+        levels: found,
+        places,
+        count,
+    }
 }
 
 /// How many trailing ones there are.
@@ -146,17 +128,29 @@ pub fn write_coefficients<B: BitSink>(
     Ok(())
 }
 
-/// Appends the runs of zeros behind all levels but the last.
-pub fn write_runs<B: BitSink>(b: &mut B, zeros: u8, runs: &[u8]) -> Result<(), Memory>
-    requires { sum runs.now ≤ zeros }
-    ensures { Appends (B.bits b.old) (B.bits b.new) (runs_text zeros runs.now) result }
+/// total_zeros of levels at these places: how many zeros the runs behind them have.
+pub fn count_zeros(places: &[u8]) -> u8
+    requires { AreFalling 16 places.now }
+    ensures { result ≡ sum (gaps places.now) }
+{
+    match places.first() {
+        Some(highest) => *highest - (places.len() as u8 - 1),
+        None => 0,
+    }
+}
+
+/// Appends the runs of zeros behind all levels but the last, which stand at these places.
+pub fn write_runs<B: BitSink>(b: &mut B, zeros: u8, places: &[u8]) -> Result<(), Memory>
+    requires falling { AreFalling 16 places.now }
+    requires fits { sum (gaps places.now) ≤ zeros }
+    ensures { Appends (B.bits b.old) (B.bits b.new) (runs_text zeros (gaps places.now)) result }
 {
     let mut left = zeros;
-    for i in 0..runs.len().saturating_sub(1) {
+    for i in 1..places.len() {
         if left == 0 {
             return Ok(());
         }
-        let run = runs[i];
+        let run = places[i - 1] - places[i] - 1;
         write_run(b, left, run)?;
         left -= run;
     }

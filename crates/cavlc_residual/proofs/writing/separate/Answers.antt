@@ -1,56 +1,32 @@
-use Rattle.std.proofs.Common.{List, ℤ, sum, ◌<◌, ◌-◌, ◌++◌, ◌∷◌, [], pos, length, get_or, refl, ap, ◌∙◌, arith, to_z, of_z, w32}
-use Rattle.cavlc_residual.proofs.WriteLemmas.{splits-start, splits-level, splits-end, none_left, zeros_behind, down-next, nonzero_i32, small_element, same_i32}
+use Rattle.std.proofs.Common.{◌≡◌, ◌<◌, ◌+◌, ◌-◌, ◌∷◌, cond, slice_set, pos, length, take, reverse, filter, get_or, refl, ap, ◌∙◌, arith}
+use Rattle.std.proofs.lemmas.List.{length-reverse, length-take-le, length-set}
+use Rattle.std.specs.Int.{from_bool}
+use Rattle.bit_texts.proofs.Numbers.{from_bool-most}
+use Rattle.cavlc_residual.specs.Block.{is_nonzero}
+use Rattle.cavlc_residual.specs.Places.{places_of}
+use Rattle.cavlc_residual.proofs.WriteLemmas.{down-next, same_i32, nonzero_test, small_element, store-turn}
 use Rattle.cavlc_residual.proofs.writing.separate.Goals as goal
-
-pub loop-left-init : goal.loop-left-init
-loop-left-init c =
-    let xs = c.args.levels.now in
-    let count = c.count_before_zeros-count.result in
-    let x = get_or xs (count - 1) (pos 0) in
-    let known = c.count_before_zeros-count.ensures in
-    let some : 0 < count = omega (arith, c.if-count-eq0.false) in
-    let within : count - 1 < length xs = omega (arith, some, known.within) in
-    let small = small_element xs xs (count - 1) refl c.requires.small within in
-    let next = down-next xs (count - 1) count x (omega (arith, some)) within refl in
-    let none = ap (λ t. length t) c.requires.empty in
-    let none_runs = ap (λ t. length t) c.requires.no_runs in
-    record {
-      splits =
-          splits-start _ _ _ _ _ _ x (known.last some) known.levels known.runs next
-          (c.push.ensures.items ∙ (ap (λ t. t ++ to_z w32 (of_z w32 x) ∷ []) c.requires.empty ∙ ap (λ y. y ∷ []) (same_i32 x small))) c.requires.no_runs refl;
-      count = omega (arith, c.push.ensures.len, none, within);
-      pairs = omega (arith, c.push.ensures.len, none, none_runs);
-    }
 
 pub loop-left-preserved : goal.loop-left-preserved
 loop-left-preserved c =
     let xs = c.args.levels.now in
     let i = c.loop-left.left - 1 in
     let x = get_or xs i (pos 0) in
+    let rest = reverse (take i xs) in
     let known = c.loop-left.invariant in
-    let within : i < length xs = omega (arith, known.count, c.loop-left-test.true) in
-    let small = small_element xs xs i refl c.requires.small within in
+    let within : i < length xs = omega (arith, known.within, c.loop-left-test.true) in
     let next = down-next xs i c.loop-left.left x (omega (arith, c.loop-left-test.true)) within refl in
+    let small = small_element xs xs i refl c.requires.small within in
+    let one : c.from-count.result ≡ from_bool (is_nonzero x) = c.from-count.ensures ∙ ap from_bool (nonzero_test x small) in
+    let place : length rest ≡ i = length-reverse (take i xs) ∙ length-take-le i xs (omega (arith, within)) in
     record {
-      splits =
-          splits-level _ _ _ _ _ _ _ _ _ x (nonzero_i32 x c.if-level-eq0.false) next
-          (c.push-else-level-eq0.ensures.items ∙ ap (λ y. c.loop-left.coefficients.items ++ y ∷ []) (same_i32 x small)) c.push-else-level-eq0-2.ensures.items refl known.splits;
-      count = omega (arith, c.push-else-level-eq0.ensures.len, known.count, c.loop-left-test.true);
-      pairs = omega (arith, c.push-else-level-eq0.ensures.len, c.push-else-level-eq0-2.ensures.len, known.pairs);
+      within = omega (arith, known.within, c.loop-left-test.true, one, from_bool-most (is_nonzero x));
+      room = length-set c.loop-left.found c.from.result _ ∙ known.room;
+      room_places = length-set c.loop-left.places c.from-in-loop-left.result i ∙ known.room_places;
+      levels =
+          store-turn c.loop-left.found _ _ _ (filter is_nonzero rest) c.loop-left.count _ c.from.result (is_nonzero x) x c.from.ensures (omega (arith, c.from.ensures, known.within, known.room, c.requires.few, c.loop-left-test.true)) (ap (λ n. c.loop-left.count + n) one)
+          (ap (slice_set c.loop-left.found c.from.result) (same_i32 x small)) (ap (filter is_nonzero) next) known.levels;
+      places =
+          store-turn c.loop-left.places _ _ _ (places_of rest) c.loop-left.count _ c.from-in-loop-left.result (is_nonzero x) i c.from-in-loop-left.ensures (omega (arith, c.from-in-loop-left.ensures, known.within, known.room_places, c.requires.few, c.loop-left-test.true)) (ap (λ n. c.loop-left.count + n) one)
+          refl (ap places_of next ∙ ap (λ n. cond (is_nonzero x) (n ∷ places_of rest) (places_of rest)) place) known.places;
     }
-
-pub overflow_sub-result : goal.overflow_sub-result
-overflow_sub-result c =
-    let known = c.count_before_zeros-count.ensures in
-    let some : 0 < c.count_before_zeros-count.result = omega (arith, c.if-count-eq0.false) in
-    let found = splits-end _ _ c.loop-left.coefficients.items c.loop-left.runs.items _ c.loop-left.zeros (none_left c.args.levels.now c.loop-left.left c.loop-left-test.false) c.push-2.ensures.items c.loop-left.invariant.splits in
-    let behind = zeros_behind c.args.levels.now _ c.len.result some known.within (known.last some) known.levels known.runs (c.len.ensures.value ∙ ap (λ (t : List ℤ). length t) found.0) in
-    omega (arith, behind)
-
-pub returns-clause-zeros : goal.returns-clause-zeros
-returns-clause-zeros c =
-    let known = c.count_before_zeros-count.ensures in
-    let some : 0 < c.count_before_zeros-count.result = omega (arith, c.if-count-eq0.false) in
-    let found = splits-end _ _ c.loop-left.coefficients.items c.loop-left.runs.items _ c.loop-left.zeros (none_left c.args.levels.now c.loop-left.left c.loop-left-test.false) c.push-2.ensures.items c.loop-left.invariant.splits in
-    let behind = zeros_behind c.args.levels.now _ c.len.result some known.within (known.last some) known.levels known.runs (c.len.ensures.value ∙ ap (λ (t : List ℤ). length t) found.0) in
-    omega (arith, behind, ap sum found.1)
